@@ -1,0 +1,15 @@
+pub mod Sides
+pub mod Cut
+pub mod Once
+pub mod Both
+pub mod Order
+pub mod Frame
+pub mod Depths
+pub mod Rows
+pub mod Seen
+pub mod Shares
+pub mod Weighing
+pub mod Painting
+pub mod Obeying
+pub mod Pictures
+pub mod Small

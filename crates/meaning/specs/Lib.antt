@@ -1,0 +1,11 @@
+pub mod Meaning
+pub mod Numbers
+pub mod Laws
+pub mod Parts
+pub mod Textures
+pub mod Weights
+pub mod Fragments
+pub mod States
+pub mod Examples
+pub mod Fits
+pub mod Bounds
