@@ -6,7 +6,6 @@ use Prim.Native.Nat.{ℕ}
 use Rattle.std.specs.declared.option.Option.{Option}
 use Rattle.meaning.specs.declared.state.State.{State}
 use Rattle.meaning.specs.Meaning.{Image, Triple, pen, look, clear, triangles, show, all-three, step}
-use Rattle.meaning.specs.Numbers.{header}
 use Rattle.meaning.specs.States.{painting, all-painting, Obeys}
 
 pub all-painted : (t : Option Image) (l : List Triple) (i j : ℕ) (n : State) →
@@ -16,7 +15,7 @@ all-painted t [] i j n = refl
 all-painted t (z ∷ l) i j n = all-painted t l i j (painting t z i j n)
 
 pub obeys : Obeys
-unfolding step header
+unfolding step
 obeys ts i j n (pen p) = refl
 obeys ts i j n (look w) = refl
 obeys ts i j n (clear c z) = refl

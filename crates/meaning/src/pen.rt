@@ -3,7 +3,7 @@ ghost use mathlib.Core.Path.{_≡_};
 ghost use Prim.Native.Nat.{_<_, _≤_};
 ghost use Rattle.std.specs.Options.{Cases};
 ghost use Rattle.meaning.specs.Meaning.{passes, mixed, in-frame};
-ghost use Rattle.meaning.specs.Numbers.{test-number, mix-number};
+ghost use Rattle.meaning.specs.Numbers.{test-number, test-of, mix-number, mix-of};
 ghost use Rattle.meaning.specs.declared.pen.Mix.the-variants.{Blend};
 
 // Which new depths pass, against the old one.
@@ -19,7 +19,7 @@ pub enum Test {
 impl Test {
     // The test that a number stands for, or nothing where there is none.
     pub fn from_number(n: u8) -> Option<Test>
-        ensures { λ r. ⌜ Cases r (5 ≤ n) (λ t. test-number t ≡ n) ⌝ }
+        ensures { λ r. ⌜ Cases r (5 ≤ n) (λ t. (test-number t ≡ n) × (t ≡ test-of n)) ⌝ }
     {
         match n {
             0 => Some(Test::Always),
@@ -68,7 +68,7 @@ pub enum Mix {
 impl Mix {
     // The mix that a number stands for, or nothing where there is none.
     pub fn from_number(n: u8) -> Option<Mix>
-        ensures { λ r. ⌜ Cases r (3 ≤ n) (λ m. mix-number m ≡ n) ⌝ }
+        ensures { λ r. ⌜ Cases r (3 ≤ n) (λ m. (mix-number m ≡ n) × (m ≡ mix-of n)) ⌝ }
     {
         match n {
             0 => Some(Mix::Replace),
