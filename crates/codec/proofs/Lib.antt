@@ -1,0 +1,10 @@
+pub mod Places
+pub mod Judging
+pub mod Chains
+pub mod Loops
+pub mod Walks
+pub mod Reading
+pub mod NumberCodecs
+pub mod PartCodecs
+pub mod CommandCodecs
+pub mod Files
