@@ -8,3 +8,6 @@ pub mod NumberCodecs
 pub mod PartCodecs
 pub mod CommandCodecs
 pub mod Files
+pub mod Appending
+pub mod Passing
+pub mod Fitting

@@ -15,7 +15,7 @@ use Rattle.codec.specs.Judged as judged
 use Rattle.codec.specs.Judged.{Got, got, stop, then, times, Verdict}
 use Rattle.codec.specs.Reader.{left}
 use Rattle.codec.specs.Verdicts.{command, summed}
-use Rattle.codec.specs.Shows.{counts, shows}
+use Rattle.codec.specs.Shows.{total}
 use Rattle.codec.specs.Walk.{There, Ahead, Some-next, Next, listed, said}
 
 -- a file that was taken has its commands where the summary says
@@ -85,9 +85,9 @@ module _ (file : List ℕ) (m : Summary) (k : ℕ) (r : Reader) (cs : List Instr
         ahead = record { same = t; is = ap (λ (b : List ℕ). times (m .commands - (k + 1)) (command m) (length file) b) (sym u) ∙ one .again };
       }
 
-  pub shows-more : (c : Command) (s : Reader) (h : More file m k cs c s) → shows cs ≡ counts c + shows (h .more)
-  unfolding shows
-  shows-more c s h = ap shows (h .both) ∙ ap (λ (d : Command). counts d + shows (h .more)) (h .head)
+  pub total-more : (f : Command → ℕ) (c : Command) (s : Reader) (h : More file m k cs c s) → total f cs ≡ f c + total f (h .more)
+  unfolding total
+  total-more f c s h = ap (total f) (h .both) ∙ ap (λ (d : Command). f d + total f (h .more)) (h .head)
 
 pub ahead-none : (file : List ℕ) (m : Summary) (k : ℕ) (r : Reader) (cs : List Instruction) → Ahead file m k r cs → m .commands ≤ k → cs ≡ []
 unfolding times
@@ -97,6 +97,6 @@ ahead-none file m k r cs o h =
     let p : [] ≡ cs = cc in
     sym p
 
-pub shows-none : shows [] ≡ 0
-unfolding shows
-shows-none = refl
+pub total-none : (f : Command → ℕ) → total f [] ≡ 0
+unfolding total
+total-none f = refl

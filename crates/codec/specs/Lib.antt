@@ -6,3 +6,4 @@ pub mod Reader
 pub mod Verdicts
 pub mod Shows
 pub mod Walk
+pub mod Writing

@@ -1,7 +1,7 @@
 // The commands of a file that was judged, read again one at a time. What each function requires holds after a judge that took the file.
 ghost use mathlib.Core.Path.{_≡_};
-ghost use Prim.Native.Nat.{_≤_};
-ghost use Rattle.codec.specs.Shows.{counts, shows};
+ghost use Prim.Native.Nat.{_*_, _≤_};
+ghost use Rattle.codec.specs.Shows.{counts, triangles-in, shows, triangle-count};
 ghost use Rattle.codec.specs.Walk.{There, Ahead, Some-next, Next, listed};
 use crate::reader::Reader;
 use crate::summary::Summary;
@@ -26,9 +26,16 @@ pub fn next(reader: &mut Reader<'_>, summary: Summary) -> Command
     reader.command(summary.size, summary.textures).unwrap()
 }
 
-// How many pictures a command shows.
-fn pictures(command: Command) -> usize
-    ensures { λ r. ⌜ r ≡ counts command ⌝ }
+// What a list of commands asks of lent memory.
+#[derive(Clone, Copy)]
+pub struct Counts {
+    pub shows: usize,
+    pub triangles: usize,
+}
+
+fn shows_of(command: Command) -> usize
+    ensures value { λ r. ⌜ r ≡ counts command ⌝ }
+    ensures few { λ r. ⌜ r ≤ 1 ⌝ }
 {
     match command {
         Command::Show => 1,
@@ -36,16 +43,30 @@ fn pictures(command: Command) -> usize
     }
 }
 
-// How many pictures the commands of a file show.
-pub fn count_shows(file: &[u8], summary: Summary) -> usize
+fn triangles_of(command: Command) -> usize
+    ensures value { λ r. ⌜ r ≡ triangles-in command ⌝ }
+    ensures few { λ r. ⌜ r ≤ 65535 ⌝ }
+{
+    match command {
+        Command::Triangles(many) => usize::from(many),
+        Command::Pen(_) | Command::Look(_) | Command::Clear { .. } | Command::Show => 0,
+    }
+}
+
+// How many pictures the commands of a file show, and how many triangles they have.
+pub fn count(file: &[u8], summary: Summary) -> Counts
     requires { ⌜ There (now file) summary ⌝ }
-    ensures is { λ r. ⌜ r ≡ shows (listed (now (file .entry)) summary) ⌝ }
-    ensures few { λ r. ⌜ r ≤ summary .commands ⌝ }
+    ensures shows { λ r. ⌜ r .shows ≡ shows (listed (now (file .entry)) summary) ⌝ }
+    ensures triangles { λ r. ⌜ r .triangles ≡ triangle-count (listed (now (file .entry)) summary) ⌝ }
+    ensures few { λ r. ⌜ (r .shows ≤ 65535) × (r .triangles ≤ 65535 * 65535) ⌝ }
 {
     let mut reader = before_commands(file, summary);
-    let mut n = 0;
+    let mut shows = 0;
+    let mut triangles = 0;
     for _ in 0..summary.commands {
-        n += pictures(next(&mut reader, summary));
+        let command = next(&mut reader, summary);
+        shows += shows_of(command);
+        triangles += triangles_of(command);
     }
-    n
+    Counts { shows, triangles }
 }

@@ -71,7 +71,7 @@ unfolding turns edge
 turns-back a b c = solve (coordinates (a .at ∷ b .at ∷ c .at ∷ [])) (E 0 2 1) (⊝ (E 0 1 2)) tt
 
 module _ (t : Option Image) (p : Pen) (a b c : Point) (i j : ℕ) (d : Dot) (P : Dot → Type 0) where
-  at-dot-both : P d → (pos 0 <ℤ turns a c b → covers a c b (middle i j) ≡ true → P (painted t p a c b (middle i j) d)) →
+  pub at-dot-both : P d → (pos 0 <ℤ turns a c b → covers a c b (middle i j) ≡ true → P (painted t p a c b (middle i j) d)) →
       (pos 0 <ℤ turns a b c → covers a b c (middle i j) ≡ true → P (painted t p a b c (middle i j) d)) → P (at-dot t p a b c i j d)
   unfolding at-dot if-covered sameZ
   at-dot-both same back there =

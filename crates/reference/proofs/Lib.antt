@@ -1,0 +1,6 @@
+pub mod Rows
+pub mod Regions
+pub mod Flat
+pub mod Threes
+pub mod Wholes
+pub mod Steps

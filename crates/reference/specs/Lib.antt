@@ -1,0 +1,5 @@
+pub mod Boxes
+pub mod Shows
+pub mod Whole
+pub mod Laws
+pub mod Made

@@ -1,0 +1,2 @@
+// Boxes of dots, row by row.
+pub mod boxes;
