@@ -4,3 +4,4 @@ pub mod Flat
 pub mod Threes
 pub mod Wholes
 pub mod Steps
+pub mod Entering

@@ -3,3 +3,4 @@ pub mod Shows
 pub mod Whole
 pub mod Laws
 pub mod Made
+pub mod Admitted

@@ -1,2 +1,3 @@
-// Pictures made dot by dot as the commands mean them.
+// The pictures of a file dot for dot, and what every maker of them promises.
+pub mod job;
 pub mod laws;
