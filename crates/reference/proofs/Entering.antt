@@ -65,14 +65,15 @@ pub made-is-meant : Made-is-meant
 made-is-meant file C D W S r C′ D′ W′ S′ made s ts cs fits built is more =
     let verdict : judged built-yet file ≡ taken s ts cs = ap (λ (b : List ℕ). judged built-yet b) is ∙ read-back built-yet s ts cs fits built in
     let all : lent (judged built-yet file) (length C) (length D) (length W) (length S) ≡ taken s ts cs =
-        ap (λ (v : Verdict). lent v (length C) (length D) (length W) (length S)) verdict
-        ∙ enough s ts cs (length C) (length D) (length W) (length S) (more .colours) (more .depths) (more .work) (more .shown) in
+    ap (λ (v : Verdict). lent v (length C) (length D) (length W) (length S)) verdict
+    ∙ enough s ts cs (length C) (length D) (length W) (length S) (more .colours) (more .depths) (more .work) (more .shown) in
     go r (subst (λ (v : Verdict). Leaves v C D W S r C′ D′ W′ S′) all made)
   where
     go : (r : Result ℕ Refusal) → Leaves (taken s ts cs) C D W S r C′ D′ W′ S′ →
         (r ≡ Ok (length (shown ts s [] cs))) × (pictures-in (length (shown ts s [] cs)) s S′ ≡ shown ts s [] cs)
     go (Err e) l = absurd l
     go (Ok k) l =
-        let n : length (shown ts s [] cs) ≡ shows cs = many-pictures ts s cs in
-        (ap (λ (i : ℕ). Ok i) (l .0 ∙ sym n),
-          ap (λ (i : ℕ). pictures-in i s S′) n ∙ ap (λ (z : List ℕ). pictures-in (shows cs) s z) (l .1 .shown) ∙ pictures-cut ts s cs (drop (shown-for s cs) S) fits)
+        let n : length (shown ts s [] cs) ≡ shows cs = many-pictures ts s cs in (
+          ap (λ (i : ℕ). Ok i) (l .0 ∙ sym n),
+          ap (λ (i : ℕ). pictures-in i s S′) n ∙ ap (λ (z : List ℕ). pictures-in (shows cs) s z) (l .1 .shown) ∙ pictures-cut ts s cs (drop (shown-for s cs) S) fits,
+        )

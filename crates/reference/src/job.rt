@@ -13,7 +13,13 @@ pub struct Job {
 }
 
 // Judges the file and then the lengths of the lent memory, in the order picture, work, shown.
-pub fn admit(file: &[u8], colours: usize, depths: usize, work: usize, shown: usize) -> Result<Job, Refusal>
+pub fn admit(
+    file: &[u8],
+    colours: usize,
+    depths: usize,
+    work: usize,
+    shown: usize,
+) -> Result<Job, Refusal>
     ensures { λ r. ⌜ Admitted (now (file .entry)) colours depths work shown r ⌝ }
 {
     let summary = judge(file)?;

@@ -16,9 +16,11 @@ loop-again c =
     let v = c .loop .inv .2 in
     let m = ahead-more (c .args .file .now) (c .args .summary) (c .loop .counter) (c .loop .reader) (v .0) (v .1) (c .loop-test .taken) (c .next-command .result) (c .next-command .last .reader) (c .next-command .ensures) in
     let e = total-more (c .args .file .now) (c .args .summary) (c .loop .counter) (c .loop .reader) (v .0) (v .1) (c .loop-test .taken) counts (c .next-command .result) (c .next-command .last .reader) m in
-    let f = total-more (c .args .file .now) (c .args .summary) (c .loop .counter) (c .loop .reader) (v .0) (v .1) (c .loop-test .taken) triangles-in (c .next-command .result) (c .next-command .last .reader) m in
-    (omega (arith, c .shows-of-shows .ensures .few), omega (arith, c .triangles-of-triangles .ensures .few),
-      (m .more, m .ahead, omega (arith, e, v .2, c .shows-of-shows .ensures .value), omega (arith, f, v .3, c .triangles-of-triangles .ensures .value)))
+    let f = total-more (c .args .file .now) (c .args .summary) (c .loop .counter) (c .loop .reader) (v .0) (v .1) (c .loop-test .taken) triangles-in (c .next-command .result) (c .next-command .last .reader) m in (
+      omega (arith, c .shows-of-shows .ensures .few),
+      omega (arith, c .triangles-of-triangles .ensures .few),
+      (m .more, m .ahead, omega (arith, e, v .2, c .shows-of-shows .ensures .value), omega (arith, f, v .3, c .triangles-of-triangles .ensures .value)),
+    )
 
 pub returns : need.returns
 returns c =

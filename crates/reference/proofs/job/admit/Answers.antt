@@ -88,8 +88,8 @@ returns c =
     record {
       images = h .0;
       verdict =
-        ap (λ (v : Verdict). lent v (c .args .colours) (c .args .depths) (c .args .work) (c .args .shown)) (verdict (c .args .file .now) m h)
-        ∙ enough s (h .0) list (c .args .colours) (c .args .depths) (c .args .work) (c .args .shown) hc hd hw room;
+          ap (λ (v : Verdict). lent v (c .args .colours) (c .args .depths) (c .args .work) (c .args .shown)) (verdict (c .args .file .now) m h)
+          ∙ enough s (h .0) list (c .args .colours) (c .args .depths) (c .args .work) (c .args .shown) hc hd hw room;
       there = there (c .args .file .now) m _ h;
       fits = bounds (c .args .file .now) m (λ k. c .typed .file k .fits) h;
       many = c .count-counts .ensures .shows;
