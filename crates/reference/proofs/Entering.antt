@@ -1,15 +1,14 @@
 -- How lent memory is judged, and what a call then leaves.
 -- Assumes nothing.
 use mathlib.Core.Path.{_≡_, refl, sym, _∙_, ap, subst}
-use mathlib.Core.Bool.{true, false, _||_}
+use mathlib.Core.Bool.{false, _||_}
 use mathlib.Core.List.{List, []}
-use Prim.Native.Nat.{ℕ, _*_, _<_, _≤_}
-use native.Mathlib.Omega.{arith}
+use Prim.Native.Nat.{ℕ, _*_, _≤_}
 use lib.Dec.{ltb}
-use lib.ListN.{length, drop, getD}
+use lib.ListN.{length, drop}
 use Rattle.std.specs.declared.result.Result.{Result}
 use Rattle.std.specs.declared.result.Result.the-variants.{Ok, Err}
-use Rattle.std.proofs.shelf.Tests.{le-ltb, lt-ltb, or-from, or-left, or-right}
+use Rattle.std.proofs.shelf.Tests.{le-ltb, or-from}
 use Rattle.meaning.specs.declared.state.Size.{Size}
 use Rattle.meaning.specs.Meaning.{Image, Instruction, shown}
 use Rattle.codec.specs.declared.refusal.Refusal.{Refusal}
@@ -26,27 +25,12 @@ use Rattle.reference.specs.Made.{dots, work-for, shown-for, lent, Leaves, Made
 use Rattle.reference.specs.Admitted.{Ready, Admitted}
 use Rattle.reference.proofs.Wholes.{whole, pictures-cut, many-pictures}
 
--- ---- lent memory, in the order in which it is judged
-module _ (s : Size) (ts : List Image) (cs : List Instruction) (c d w h : ℕ) where
-  pub short-colours : c < dots s * 3 → lent (taken s ts cs) c d w h ≡ refused 6 0
-  short-colours l = rw (or-left (ltb c (dots s * 3)) (ltb d (dots s)) (lt-ltb c (dots s * 3) l))
-
-  pub short-depths : d < dots s → lent (taken s ts cs) c d w h ≡ refused 6 0
-  short-depths l = rw (or-right (ltb c (dots s * 3)) (ltb d (dots s)) (lt-ltb d (dots s) l))
-
-  module _ (hc : dots s * 3 ≤ c) (hd : dots s ≤ d) where
-    picture-there : (ltb c (dots s * 3) || ltb d (dots s)) ≡ false
-    picture-there = or-from _ _ (le-ltb c (dots s * 3) hc) (le-ltb d (dots s) hd)
-
-    pub short-work : w < work-for s cs → lent (taken s ts cs) c d w h ≡ refused 6 1
-    short-work l = rw (picture-there, lt-ltb w (work-for s cs) l)
-
-    module _ (hw : work-for s cs ≤ w) where
-      pub short-shown : h < shown-for s cs → lent (taken s ts cs) c d w h ≡ refused 6 2
-      short-shown l = rw (picture-there, le-ltb w (work-for s cs) hw, lt-ltb h (shown-for s cs) l)
-
-      pub enough : shown-for s cs ≤ h → lent (taken s ts cs) c d w h ≡ taken s ts cs
-      enough l = rw (picture-there, le-ltb w (work-for s cs) hw, le-ltb h (shown-for s cs) l)
+-- ---- where enough is lent the verdict stays
+pub enough : (s : Size) (ts : List Image) (cs : List Instruction) (c d w h : ℕ) → dots s * 3 ≤ c → dots s ≤ d → work-for s cs ≤ w → shown-for s cs ≤ h →
+    lent (taken s ts cs) c d w h ≡ taken s ts cs
+enough s ts cs c d w h hc hd hw hs =
+    let picture : (ltb c (dots s * 3) || ltb d (dots s)) ≡ false = or-from _ _ (le-ltb c (dots s * 3) hc) (le-ltb d (dots s) hd) in
+    rw (picture, le-ltb w (work-for s cs) hw, le-ltb h (shown-for s cs) hs)
 
 -- ---- what a call leaves
 module _ (file C D W S : List ℕ) where

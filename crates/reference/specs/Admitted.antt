@@ -13,7 +13,24 @@ use Rattle.codec.specs.Kinds.{built-yet}
 use Rattle.codec.specs.Shows.{shows}
 use Rattle.codec.specs.Walk.{There, listed}
 use Rattle.reference.specs.declared.job.Job.{Job}
-use Rattle.reference.specs.Made.{dots, shown-for, lent}
+use Rattle.reference.specs.declared.job.Needs.{Needs}
+use Rattle.reference.specs.Made.{dots, work-for, shown-for, lent}
+
+-- the file is taken, its commands can be read again, they are in bounds, and these are the lengths that they need
+pub record Sized (file : List ℕ) (n : Needs) : Type 0 where
+  pub images : List Image
+  pub verdict : judged built-yet file ≡ taken (n .summary .size) images (listed file (n .summary))
+  pub there : There file (n .summary)
+  pub fits : List-fits (n .summary .size) images (listed file (n .summary))
+  pub many : n .shows ≡ shows (listed file (n .summary))
+  pub colours : n .colours ≡ dots (n .summary .size) * 3
+  pub depths : n .depths ≡ dots (n .summary .size)
+  pub work : n .work ≡ work-for (n .summary .size) (listed file (n .summary))
+  pub shown : n .shown ≡ shown-for (n .summary .size) (listed file (n .summary))
+
+abbrev pub Measured : List ℕ → Result Needs Refusal → Type 0
+Measured file (Ok n) = Sized file n
+Measured file (Err e) = judged built-yet file ≡ refused (refusal-number e) (refusal-place e)
 
 -- the file is taken, its commands can be read again, they are in bounds, and there is room for the picture and for what is shown
 pub record Ready (file : List ℕ) (c d w h : ℕ) (j : Job) : Type 0 where
