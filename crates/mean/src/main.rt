@@ -1,47 +1,48 @@
-// Prints what lists of drawing commands mean, dot for dot.
-use crate::examples::Example;
-use crate::examples::Step;
-use crate::examples::all;
-use meaning::state::Dot;
-use meaning::state::State;
+// The pictures of a file by the plain meaning: for each dot all commands, one after the other.
+use codec::refusal::Refusal;
+use console::painter::Painter;
+use console::print::print_pictures;
+use std::env;
 use std::error::AnyError;
+use std::fs;
+use std::io::Read;
 
-mod examples;
+const HELP: &str = "mean FILE: prints the pictures of a file of drawing commands, computed dot by dot by their plain meaning.\n\
+    FILE may be - for standard input.\n\
+    A refused file prints 'refused N at P' and ends with status 1; docs/MEANING.md says what N and P are.";
 
-// One dot through all commands, one after the other.
-fn dot_at(example: &Example, i: u16, j: u16) -> Dot {
-    let mut state = State::begin(example.size);
-    for step in &example.steps {
-        state = match step {
-            Step::Command(command) => state.obey(*command, i, j),
-            Step::Triangle(corners) => state.paint(example.texture, *corners, i, j),
-        };
+struct Meaning;
+
+impl Painter for Meaning as MeaningPainter {
+    fn paint(&self, file: &[u8], colours: &mut [u8], depths: &mut [u16], work: &mut [u32], shown: &mut [u8]) -> Result<usize, Refusal> {
+        reference::mean(file, colours, depths, work, shown)
     }
-    state.dot
 }
 
-fn print_picture(rt: &LibcRuntime, example: &Example) -> Result<(), AnyError> {
-    let width = example.size.width;
-    let height = example.size.height;
-    println!(rt, "picture {width} {height}")?;
-    for j in 0..height {
-        for i in 0..width {
-            let [r, g, b] = dot_at(example, i, j).colour;
-            let gap = if i == 0 { "" } else { " " };
-            print!(rt, "{gap}{r:02x}{g:02x}{b:02x}")?;
-        }
-        println!(rt, "")?;
+fn read_file(rt: &LibcRuntime, name: &str) -> Result<Vec<u8>, AnyError> {
+    if name == "-" {
+        let mut bytes = Vec::new(rt.alloc());
+        rt.stdin().read_to_end(&mut bytes)?;
+        return Ok(bytes);
     }
-    Ok(())
+    Ok(fs::read(rt, name)?)
 }
 
-fn run(rt: &LibcRuntime) -> Result<(), AnyError> {
-    for example in &all(rt.alloc())? {
-        print_picture(rt, example)?;
+fn run(rt: &LibcRuntime) -> Result<bool, AnyError> {
+    let mut args = env::args(rt)?;
+    let _ = args.next();
+    let Some(name) = args.next() else {
+        return Err("mean: no file is named; mean --help says how".into());
+    };
+    if name.as_str() == "--help" {
+        rt.println(HELP)?;
+        return Ok(true);
     }
-    Ok(())
+    let file = read_file(rt, name.as_str())?;
+    print_pictures(rt, &Meaning, &file, None)
 }
 
+// A file that is refused ends the program with status 1 and no more words.
 fn main(rt: LibcRuntime) -> Result<(), AnyError> {
-    rt.report(run(&rt))
+    if rt.report(run(&rt))? { Ok(()) } else { Err("refused".into()) }
 }

@@ -1,0 +1,57 @@
+// The pictures of a file, made tile by tile.
+use codec::refusal::Refusal;
+use console::painter::Painter;
+use console::print::print_pictures;
+use std::env;
+use std::error::AnyError;
+use std::fs;
+use std::io::Read;
+
+const HELP: &str = "make [--ppm NAME] FILE: prints the pictures of a file of drawing commands, made tile by tile.\n\
+    FILE may be - for standard input. With --ppm the pictures are also written to NAME-1.ppm, NAME-2.ppm and so on.\n\
+    A refused file prints 'refused N at P' and ends with status 1; docs/MEANING.md says what N and P are.";
+
+struct Tiles;
+
+impl Painter for Tiles as TilesPainter {
+    fn paint(&self, file: &[u8], colours: &mut [u8], depths: &mut [u16], work: &mut [u32], shown: &mut [u8]) -> Result<usize, Refusal> {
+        maker::make(file, colours, depths, work, shown)
+    }
+}
+
+fn read_file(rt: &LibcRuntime, name: &str) -> Result<Vec<u8>, AnyError> {
+    if name == "-" {
+        let mut bytes = Vec::new(rt.alloc());
+        rt.stdin().read_to_end(&mut bytes)?;
+        return Ok(bytes);
+    }
+    Ok(fs::read(rt, name)?)
+}
+
+fn run(rt: &LibcRuntime) -> Result<bool, AnyError> {
+    let mut args = env::args(rt)?;
+    let _ = args.next();
+    let mut first = args.next();
+    let mut pictures = None;
+    if let Some(word) = &first && word.as_str() == "--ppm" {
+        pictures = args.next();
+        first = args.next();
+    }
+    let Some(name) = first else {
+        return Err("make: no file is named; make --help says how".into());
+    };
+    if name.as_str() == "--help" {
+        rt.println(HELP)?;
+        return Ok(true);
+    }
+    let file = read_file(rt, name.as_str())?;
+    match &pictures {
+        Some(ppm) => print_pictures(rt, &Tiles, &file, Some(ppm.as_str())),
+        None => print_pictures(rt, &Tiles, &file, None),
+    }
+}
+
+// A file that is refused ends the program with status 1 and no more words.
+fn main(rt: LibcRuntime) -> Result<(), AnyError> {
+    if rt.report(run(&rt))? { Ok(()) } else { Err("refused".into()) }
+}
