@@ -7,14 +7,22 @@ use std::error::AnyError;
 use std::fs;
 use std::io::Read;
 
-const HELP: &str = "make [--ppm NAME] FILE: prints the pictures of a file of drawing commands, made tile by tile.\n\
+const HELP: &str =
+    "make [--ppm NAME] FILE: prints the pictures of a file of drawing commands, made tile by tile.\n\
     FILE may be - for standard input. With --ppm the pictures are also written to NAME-1.ppm, NAME-2.ppm and so on.\n\
     A refused file prints 'refused N at P' and ends with status 1; docs/MEANING.md says what N and P are.";
 
 struct Tiles;
 
 impl Painter for Tiles as TilesPainter {
-    fn paint(&self, file: &[u8], colours: &mut [u8], depths: &mut [u16], work: &mut [u32], shown: &mut [u8]) -> Result<usize, Refusal> {
+    fn paint(
+        &self,
+        file: &[u8],
+        colours: &mut [u8],
+        depths: &mut [u16],
+        work: &mut [u32],
+        shown: &mut [u8],
+    ) -> Result<usize, Refusal> {
         maker::make(file, colours, depths, work, shown)
     }
 }
@@ -33,7 +41,9 @@ fn run(rt: &LibcRuntime) -> Result<bool, AnyError> {
     let _ = args.next();
     let mut first = args.next();
     let mut pictures = None;
-    if let Some(word) = &first && word.as_str() == "--ppm" {
+    if let Some(word) = &first
+        && word.as_str() == "--ppm"
+    {
         pictures = args.next();
         first = args.next();
     }
@@ -53,5 +63,9 @@ fn run(rt: &LibcRuntime) -> Result<bool, AnyError> {
 
 // A file that is refused ends the program with status 1 and no more words.
 fn main(rt: LibcRuntime) -> Result<(), AnyError> {
-    if rt.report(run(&rt))? { Ok(()) } else { Err("refused".into()) }
+    if rt.report(run(&rt))? {
+        Ok(())
+    } else {
+        Err("refused".into())
+    }
 }

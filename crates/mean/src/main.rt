@@ -7,14 +7,22 @@ use std::error::AnyError;
 use std::fs;
 use std::io::Read;
 
-const HELP: &str = "mean FILE: prints the pictures of a file of drawing commands, computed dot by dot by their plain meaning.\n\
+const HELP: &str =
+    "mean FILE: prints the pictures of a file of drawing commands, computed dot by dot by their plain meaning.\n\
     FILE may be - for standard input.\n\
     A refused file prints 'refused N at P' and ends with status 1; docs/MEANING.md says what N and P are.";
 
 struct Meaning;
 
 impl Painter for Meaning as MeaningPainter {
-    fn paint(&self, file: &[u8], colours: &mut [u8], depths: &mut [u16], work: &mut [u32], shown: &mut [u8]) -> Result<usize, Refusal> {
+    fn paint(
+        &self,
+        file: &[u8],
+        colours: &mut [u8],
+        depths: &mut [u16],
+        work: &mut [u32],
+        shown: &mut [u8],
+    ) -> Result<usize, Refusal> {
         reference::mean(file, colours, depths, work, shown)
     }
 }
@@ -44,5 +52,9 @@ fn run(rt: &LibcRuntime) -> Result<bool, AnyError> {
 
 // A file that is refused ends the program with status 1 and no more words.
 fn main(rt: LibcRuntime) -> Result<(), AnyError> {
-    if rt.report(run(&rt))? { Ok(()) } else { Err("refused".into()) }
+    if rt.report(run(&rt))? {
+        Ok(())
+    } else {
+        Err("refused".into())
+    }
 }
