@@ -5,3 +5,5 @@ pub mod Threes
 pub mod Wholes
 pub mod Steps
 pub mod Entering
+pub mod Built
+pub mod EachDot

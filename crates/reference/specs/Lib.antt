@@ -4,3 +4,4 @@ pub mod Whole
 pub mod Laws
 pub mod Made
 pub mod Admitted
+pub mod Dots
