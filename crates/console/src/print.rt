@@ -69,7 +69,9 @@ pub fn print_pictures<P: Painter>(
             return Ok(false);
         }
     };
-    let mut memory = Memory::new(rt.alloc(), needs)?;
+    let Ok(mut memory) = Memory::new(rt.alloc(), needs) else {
+        return Err("there is not enough memory for the pictures".into());
+    };
     match painter.paint(
         file,
         &mut memory.colours,

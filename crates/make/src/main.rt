@@ -27,15 +27,23 @@ impl Painter for Tiles as TilesPainter {
     }
 }
 
-fn read_file(rt: &LibcRuntime, name: &str) -> Result<Vec<u8>, AnyError> {
+// The bytes of a file, or nothing where it cannot be read, which is said on standard error.
+fn read_file(rt: &LibcRuntime, name: &str) -> Result<Option<Vec<u8>>, AnyError> {
     if name == "-" {
         let mut bytes = Vec::new(rt.alloc());
         rt.stdin().read_to_end(&mut bytes)?;
-        return Ok(bytes);
+        return Ok(Some(bytes));
     }
-    Ok(fs::read(rt, name)?)
+    match fs::read(rt, name) {
+        Ok(bytes) => Ok(Some(bytes)),
+        Err(error) => {
+            eprintln!(rt, "make: the file cannot be read: {error}")?;
+            Ok(None)
+        }
+    }
 }
 
+// Whether the pictures were printed.
 fn run(rt: &LibcRuntime) -> Result<bool, AnyError> {
     let mut args = env::args(rt)?;
     let _ = args.next();
@@ -48,24 +56,29 @@ fn run(rt: &LibcRuntime) -> Result<bool, AnyError> {
         first = args.next();
     }
     let Some(name) = first else {
-        return Err("make: no file is named; make --help says how".into());
+        return Err("no file is named; make --help says how".into());
     };
     if name.as_str() == "--help" {
         rt.println(HELP)?;
         return Ok(true);
     }
-    let file = read_file(rt, name.as_str())?;
+    let Some(file) = read_file(rt, name.as_str())? else {
+        return Ok(false);
+    };
     match &pictures {
         Some(ppm) => print_pictures(rt, &Tiles, &file, Some(ppm.as_str())),
         None => print_pictures(rt, &Tiles, &file, None),
     }
 }
 
-// A file that is refused ends the program with status 1 and no more words.
+// What went wrong was said, so an error only ends the program with status 1.
 fn main(rt: LibcRuntime) -> Result<(), AnyError> {
-    if rt.report(run(&rt))? {
-        Ok(())
-    } else {
-        Err("refused".into())
+    match run(&rt) {
+        Ok(true) => Ok(()),
+        Ok(false) => Err("nothing was printed".into()),
+        Err(error) => {
+            eprintln!(rt, "make: {error}")?;
+            Err(error)
+        }
     }
 }

@@ -52,15 +52,14 @@ fn run(rt: &LibcRuntime) -> Result<(), AnyError> {
     let mut args = env::args(rt)?;
     let _ = args.next();
     let Some(from) = args.next() else {
-        rt.println(HELP)?;
-        return Err("write: no text is named".into());
+        return Err("no text is named; write --help says how".into());
     };
     if from.as_str() == "--help" {
         rt.println(HELP)?;
         return Ok(());
     }
     let Some(to) = args.next() else {
-        return Err("write: no file is named; write --help says how".into());
+        return Err("no file is named; write --help says how".into());
     };
     let text = read_text(rt, from.as_str())?;
     let draft = match parse(rt.alloc(), text.as_str()) {
@@ -73,9 +72,9 @@ fn run(rt: &LibcRuntime) -> Result<(), AnyError> {
                 rt,
                 "write: line {line}, column {column}: expected {expected}"
             )?;
-            return Err("write: nothing was written".into());
+            return Err("nothing was written".into());
         }
-        Err(Problem::Memory) => return Err("write: there is not enough memory".into()),
+        Err(Problem::Memory) => return Err("there is not enough memory".into()),
     };
     match write(
         rt.alloc(),
@@ -89,6 +88,13 @@ fn run(rt: &LibcRuntime) -> Result<(), AnyError> {
     }
 }
 
+// What went wrong was said, so an error only ends the program with status 1.
 fn main(rt: LibcRuntime) -> Result<(), AnyError> {
-    rt.report(run(&rt))
+    match run(&rt) {
+        Ok(()) => Ok(()),
+        Err(error) => {
+            eprintln!(rt, "write: {error}")?;
+            Err(error)
+        }
+    }
 }
