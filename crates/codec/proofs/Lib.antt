@@ -11,3 +11,4 @@ pub mod Files
 pub mod Appending
 pub mod Passing
 pub mod Fitting
+pub mod BuiltKinds

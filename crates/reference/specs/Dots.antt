@@ -7,16 +7,13 @@ use Prim.Native.Nat.{ℕ, _+_, _*_, _<_}
 use lib.Dec.{eqb}
 use lib.ListN.{getD}
 use Rattle.codec.specs.declared.summary.Summary.{Summary}
-use Rattle.codec.specs.Judged.{All-built}
-use Rattle.codec.specs.Kinds.{built-yet}
 use Rattle.codec.specs.Shows.{shows}
 use Rattle.codec.specs.Walk.{There, listed}
 use Rattle.reference.specs.Shows.{Room}
 
--- the commands of a file can be read again, are of the kinds that there are, and there is room for their pictures
+-- the commands of a file can be read again, and there is room for their pictures
 pub record Prepared (file : List ℕ) (m : Summary) (C D S : List ℕ) : Type 0 where
   pub there : There file m
-  pub built : All-built built-yet (listed file m)
   pub room : Room (m .size) (shows (listed file m)) C D S
 
 -- three bytes for each dot: the dot at one place has the colour, and the others are as before

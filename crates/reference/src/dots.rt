@@ -4,8 +4,6 @@ ghost use mathlib.Core.List.{List};
 ghost use Prim.Native.Nat.{_+_, _*_, _<_, _≤_};
 ghost use lib.ListN.{length, getD};
 ghost use Rattle.meaning.specs.Meaning.{Image, after, begin};
-ghost use Rattle.codec.specs.Judged.{All-built};
-ghost use Rattle.codec.specs.Kinds.{built-yet};
 ghost use Rattle.codec.specs.Shows.{shows};
 ghost use Rattle.codec.specs.Walk.{There, listed};
 ghost use Rattle.reference.specs.Boxes.{in-box};
@@ -38,7 +36,6 @@ fn put_colour(colours: &mut [u8], place: usize, colour: [u8; 3])
 // Dot (i, j) after all commands. At each show its colour goes to its place in that picture.
 fn obey_all(file: &[u8], summary: Summary, i: u16, j: u16, shown: &mut [u8]) -> Dot
     requires there { ⌜ There (now file) summary ⌝ }
-    requires built { ⌜ All-built built-yet (listed (now file) summary) ⌝ }
     requires across { ⌜ i < summary .size .width ⌝ }
     requires down { ⌜ j < summary .size .height ⌝ }
     requires room { ⌜ ((shows (listed (now file) summary) * summary .size .height) * summary .size .width) * 3 ≤ length (now shown) ⌝ }

@@ -2,7 +2,6 @@ use native.Mathlib.Omega.{arith}
 use borrow.Author.Needs.{needs}
 use Rattle.std.proofs.shelf.Results.{err-from-errBy}
 use Rattle.reference.specs.Made.{Made}
-use Rattle.reference.proofs.Built.{prepared}
 use Rattle.reference.proofs.Entering.{made-none, made-all, made-is-meant}
 use Rattle.reference.proofs.mean.Needs as need
 
@@ -16,8 +15,8 @@ returns-in-Break-job c =
 
 pub mean-rows-requires : need.mean-rows-requires
 mean-rows-requires c κs =
-    let a = c .args in
-    prepared (a .file .now) (a .colours .now) (a .depths .now) (a .shown .now) _ (c .in-Continue-job .job) (λ k. omega (arith, c .typed .file k)) (c .in-Continue-job .ensures tt)
+    let r = c .in-Continue-job .ensures tt in
+    record { there = r .there; room = record { colours = r .colours; depths = r .depths; shown = r .room } }
 
 pub returns : need.returns
 returns c =

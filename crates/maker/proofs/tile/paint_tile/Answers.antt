@@ -14,7 +14,7 @@ use Rattle.codec.proofs.Walks.{ahead-next, ahead-more, ahead-none, total-more}
 use Rattle.reference.specs.Boxes.{Colours, Depths}
 use Rattle.reference.proofs.Steps.{through-start, through-end, room-for}
 use Rattle.maker.specs.Tiles.{Midway}
-use Rattle.maker.proofs.Built.{next-built}
+use Rattle.codec.proofs.BuiltKinds.{next-built}
 use Rattle.maker.proofs.tile.paint_tile.Needs as need
 
 -- before the first command

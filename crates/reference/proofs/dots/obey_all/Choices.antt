@@ -1,8 +1,6 @@
 use mathlib.Core.List.{List}
 use Prim.Native.Nat.{_≤_}
 use Rattle.meaning.specs.Meaning.{Image, Instruction}
-use Rattle.codec.specs.Judged.{All-built}
-use Rattle.codec.specs.Kinds.{built-yet}
 use Rattle.codec.specs.Walk.{Ahead, listed}
 use Rattle.reference.proofs.EachDot.{So-far}
 use Rattle.reference.proofs.dots.obey_all.Given as given
@@ -10,5 +8,5 @@ use Rattle.reference.proofs.dots.obey_all.Given as given
 abbrev pub Inv-loop : given.InvT-loop
 Inv-loop l =
     (l .number ≤ l .counter)
-    × ((left : List Instruction) × Ahead (l .file) (l .summary) (l .counter) (l .reader) left × All-built built-yet left
+    × ((left : List Instruction) × Ahead (l .file) (l .summary) (l .counter) (l .reader) left
     × ((ts : List Image) → So-far ts (l .summary .size) (listed (l .file) (l .summary)) (l .i) (l .j) (l .entry .shown) left (l .state) (l .number) (l .shown)))
