@@ -8,7 +8,7 @@ use crate::memory::Memory;
 use crate::painter::Painter;
 use codec::refusal::Refusal;
 use meaning::state::Size;
-use output::push_row;
+use output::push_rows;
 use reference::job::measure;
 use std::error::AnyError;
 use std::fs;
@@ -27,9 +27,7 @@ fn print_picture(rt: &LibcRuntime, size: Size, dots: &[u8]) -> Result<(), AnyErr
     let height = size.height;
     println!(rt, "picture {width} {height}")?;
     let mut text = Vec::new(rt.alloc());
-    for row in dots.chunks(3 * usize::from(width.max(1))) {
-        push_row(&mut text, row)?;
-    }
+    push_rows(&mut text, size, dots)?;
     rt.stdout().write_all(&text)?;
     Ok(())
 }

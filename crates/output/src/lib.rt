@@ -1,10 +1,11 @@
 // Pictures as text.
 ghost use mathlib.Core.List.{[], _∷_, _++_};
 ghost use mathlib.Core.Path.{_≡_};
-ghost use Prim.Native.Nat.{_<_, _/_, _%_};
+ghost use Prim.Native.Nat.{_<_, _*_, _/_, _%_};
 ghost use Rattle.std.specs.Of.Vec.{vec-items};
 ghost use Rattle.std.specs.Vec.{made};
-ghost use Rattle.output.specs.Text.{digit, gap, row-text};
+ghost use Rattle.output.specs.Text.{digit, gap, row-text, rows-text};
+use meaning::state::Size;
 use std::alloc::AllocError;
 
 // A hexadecimal digit.
@@ -34,7 +35,7 @@ fn push_byte(out: &mut Vec<u8>, byte: u8) -> Result<(), AllocError>
 }
 
 // A row of dots, three bytes each, as a line of text behind what `out` has.
-pub fn push_row(out: &mut Vec<u8>, row: &[u8]) -> Result<(), AllocError>
+fn push_row(out: &mut Vec<u8>, row: &[u8]) -> Result<(), AllocError>
     ensures { λ r. ⌜ made r (λ _. vec-items (now (out .exit)) ≡ vec-items (now (out .entry)) ++ row-text 0 (now (row .entry))) ⌝ }
 {
     for (k, byte) in row.iter().enumerate() {
@@ -42,5 +43,19 @@ pub fn push_row(out: &mut Vec<u8>, row: &[u8]) -> Result<(), AllocError>
         push_byte(out, *byte)?;
     }
     out.push(b'\n')?;
+    Ok(())
+}
+
+// The rows of a picture, from the top, as lines of text behind what `out` has.
+pub fn push_rows(out: &mut Vec<u8>, size: Size, dots: &[u8]) -> Result<(), AllocError>
+    ensures { λ r. ⌜ made r (λ _. vec-items (now (out .exit)) ≡ vec-items (now (out .entry)) ++ rows-text (size .height) (3 * size .width) (now (dots .entry))) ⌝ }
+{
+    let stride = 3 * usize::from(size.width);
+    let mut rest = dots;
+    for _ in 0..size.height {
+        let (row, behind) = rest.split_at(stride.min(rest.len()));
+        push_row(out, row)?;
+        rest = behind;
+    }
     Ok(())
 }
