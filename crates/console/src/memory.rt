@@ -1,6 +1,7 @@
-// Memory as large as a file needs.
+// Memory as large as a file needs, all zero.
 ghost use mathlib.Core.Path.{_≡_};
-ghost use Rattle.std.specs.Of.Vec.{vec-len};
+ghost use lib.ListN.{replicate};
+ghost use Rattle.std.specs.Of.Vec.{vec-items};
 ghost use Rattle.std.specs.Vec.{made};
 use reference::job::Needs;
 use std::alloc::AllocError;
@@ -16,10 +17,10 @@ pub struct Memory {
 
 impl Memory {
     pub fn new(heap: Global, needs: Needs) -> Result<Memory, AllocError>
-        ensures colours { λ r. ⌜ made r (λ m. vec-len (m .colours) ≡ needs .colours) ⌝ }
-        ensures depths { λ r. ⌜ made r (λ m. vec-len (m .depths) ≡ needs .depths) ⌝ }
-        ensures work { λ r. ⌜ made r (λ m. vec-len (m .work) ≡ needs .work) ⌝ }
-        ensures shown { λ r. ⌜ made r (λ m. vec-len (m .shown) ≡ needs .shown) ⌝ }
+        ensures colours { λ r. ⌜ made r (λ m. vec-items (m .colours) ≡ replicate (needs .colours) 0) ⌝ }
+        ensures depths { λ r. ⌜ made r (λ m. vec-items (m .depths) ≡ replicate (needs .depths) 0) ⌝ }
+        ensures work { λ r. ⌜ made r (λ m. vec-items (m .work) ≡ replicate (needs .work) 0) ⌝ }
+        ensures shown { λ r. ⌜ made r (λ m. vec-items (m .shown) ≡ replicate (needs .shown) 0) ⌝ }
     {
         let colours = vec![in heap; 0; needs.colours]?;
         let depths = vec![in heap; 0; needs.depths]?;
