@@ -66,16 +66,11 @@ module _ {A B C : Type 0} {f : B → A} {S : C → A → Type 0} {read : judged.
   pub refused_too : {b : Refusal} {q : Result C Refusal} → r ≡ Err b → (p : (e : Refusal) × (q ≡ Err e) × (e ≡ b)) → Reads f read x r y → ReadsSome S read x q y
   refused_too e d h = record { same = h.same; is = rw (d.1, d.2) (stopped h e) }
 
--- what was read of a file, said of the file as it was
-pub found_before : {A : Type 0} (read : judged.Reader A) (x : Reader) (file : List ℕ) (m : judged.Got A) → x.bytes.now ≡ file →
-    read (length x.bytes.now) (left x) ≡ m → read (length file) (drop x.at file) ≡ m
-found_before read x file m p q = subst (λ (b : List ℕ). read (length b) (drop x.at b) ≡ m) p q
-
--- the same at the end of a file
+-- what was read at the end of a file, said of the file as it was
 pub found_there : {A : Type 0} (read : judged.Reader A) (x y : Reader) (file : List ℕ) (a : A) → x.bytes.now ≡ file → length y.bytes.now ≤ y.at →
     read (length x.bytes.now) (left x) ≡ judged.got a (left y) → read (length file) (drop x.at file) ≡ judged.got a []
 found_there read x y file a p h q =
-    found_before read x file (judged.got a []) p (q ∙ ap (λ (l : List ℕ). judged.got a l) (drop_all y.at y.bytes.now h))
+    subst (λ (b : List ℕ). read (length b) (drop x.at b) ≡ judged.got a []) p (q ∙ ap (λ (l : List ℕ). judged.got a l) (drop_all y.at y.bytes.now h))
 
 pub within_too : (x : Reader) (file : List ℕ) → x.bytes.now ≡ file → x.at ≤ length file
 within_too x file p = subst (λ (b : List ℕ). x.at ≤ length b) p x.inside

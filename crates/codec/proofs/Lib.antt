@@ -8,8 +8,7 @@ pub mod NumberCodecs
 pub mod PartCodecs
 pub mod CommandCodecs
 pub mod Files
-pub mod Skips
 pub mod Appending
 pub mod Passing
 pub mod Fitting
-pub mod Totals
+pub mod BuiltKinds

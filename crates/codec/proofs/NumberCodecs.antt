@@ -9,7 +9,7 @@ use Rattle.codec.specs.File.{le, signed}
 use Rattle.codec.specs.Judged.{bytes, value, twos, judge, number, within, whole_number}
 use Rattle.codec.proofs.Reading.{Holds, holds_then, Codec, like, bytes_codec}
 
-pub length_le : (n x : ℕ) → length (le n x) ≡ n
+length_le : (n x : ℕ) → length (le n x) ≡ n
 unfolding le
 length_le zero x = refl
 length_le (suc n) x = ap suc (length_le n (x / 256))

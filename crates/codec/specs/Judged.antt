@@ -4,15 +4,12 @@ use Rattle.std.specs.Prelude.{◌≡◌, ℕ, zero, suc, ◌+◌, ◌-◌, ◌*�
 use Rattle.meaning.specs.declared.geometry.Place.{Place}
 use Rattle.meaning.specs.declared.points.Corner.{Corner}
 use Rattle.meaning.specs.declared.projection.Row.{Row}
-use Rattle.meaning.specs.declared.projection.View.{View}
 use Rattle.meaning.specs.declared.pen.Frame.{Frame}
-use Rattle.meaning.specs.declared.pen.Pen.{Pen}
 use Rattle.meaning.specs.declared.state.Size.{Size}
-use Rattle.meaning.specs.declared.command.Command.{Command}
-use Rattle.meaning.specs.declared.command.Command.TheVariants as kind
 use Rattle.meaning.specs.Meaning.{Image, Triple, Instruction, pen, look, clear, triangles, show}
-use Rattle.meaning.specs.Numbers.{test_of, mix_of}
+use Rattle.meaning.specs.Numbers.{test_of, mix_of, kind_number, header}
 use Rattle.meaning.specs.Fits.{ListFits}
+use Rattle.std.specs.List.{AllByRecursion as All}
 use Rattle.codec.specs.File.{file_of}
 
 pub data Verdict : Type 0 where
@@ -41,12 +38,6 @@ abbrev pub ◌>>=◌ : {A B : Type 0} → Reader A → (A → Reader B) → Read
 
 abbrev pub give : {A : Type 0} → A → Reader A
 give a whole left = got a left
-
--- what was read, under another name
-abbrev pub as_a : {A B : Type 0} → (A → B) → Reader A → Reader B
-as_a f r = do
-  a ← r
-  give (f a)
 
 unfoldable pub times : {A : Type 0} → ℕ → Reader A → Reader (List A)
 times zero r = give []
@@ -92,14 +83,14 @@ a_frame s = do
   bottom ← number 5 2 top s.height
   give (record { left = left; top = top; right = right; bottom = bottom })
 
-unfoldable pub a_pen : Size → ℕ → Reader Pen
+unfoldable pub a_pen : Size → ℕ → Reader Instruction
 a_pen s textures = do
   test ← number 5 1 0 4
   keeps ← number 5 1 0 1
   mix ← number 5 1 0 2
   texture ← number 5 1 0 textures
   frame ← a_frame s
-  give (record { test = test_of test; keeps = (keeps == 1); mix = mix_of mix; texture = texture; frame = frame })
+  give (pen (record { test = test_of test; keeps = (keeps == 1); mix = mix_of mix; texture = texture; frame = frame }))
 
 unfoldable pub a_row : Reader Row
 a_row = do
@@ -115,20 +106,20 @@ a_place = do
   y ← whole_number 524288
   give (record { x = x; y = y })
 
-unfoldable pub a_view : Reader View
-a_view = do
+unfoldable pub a_look : Reader Instruction
+a_look = do
   across ← a_row
   down ← a_row
   away ← a_row
   scale ← number 5 4 0 1048575
   middle ← a_place
-  give (record { across = across; down = down; away = away; scale = scale; middle = middle })
+  give (look (record { across = across; down = down; away = away; scale = scale; middle = middle }))
 
-unfoldable pub a_clear : Reader Command
+unfoldable pub a_clear : Reader Instruction
 a_clear = do
   colour ← bytes 3
   depth ← number 5 2 0 65535
-  give (kind.Clear colour depth)
+  give (clear colour depth)
 
 unfoldable pub a_corner : Reader Corner
 a_corner = do
@@ -147,34 +138,24 @@ a_triple = do
   c ← a_corner
   give (record { a = a; b = b; c = c })
 
--- there are five kinds
-abbrev pub known : ℕ → Bool
-known v = nat_le 1 v && nat_le v 5
+unfoldable pub some_triangles : Reader Instruction
+some_triangles = do
+  n ← number 5 2 0 65535
+  all ← times n a_triple
+  give (triangles all)
 
--- what a command of kind k has, of triangles only how many
-unfoldable pub of_kind : Size → ℕ → ℕ → Reader Command
+unfoldable pub of_kind : Size → ℕ → ℕ → Reader Instruction
 of_kind s textures k =
-    cond (k == 1) (as_a kind.Pen (a_pen s textures))
-    (cond (k == 2) (as_a kind.Look a_view) (cond (k == 3) a_clear (cond (k == 4) (as_a kind.Triangles (number 5 2 0 65535)) (give kind.Show))))
+    cond (k == 1) (a_pen s textures) (cond (k == 2) a_look (cond (k == 3) a_clear (cond (k == 4) some_triangles (give show))))
 
--- the front of a command: its kind and what it has
-unfoldable pub a_head : Size → ℕ → Reader Command
-a_head s textures = do
-  k ← judge 4 1 (λ v. v) known
+-- `built` says which of the five kinds there are
+abbrev pub known : (ℕ → Bool) → ℕ → Bool
+known built v = (nat_le 1 v && nat_le v 5) && built v
+
+unfoldable pub a_command : (ℕ → Bool) → Size → ℕ → Reader Instruction
+a_command built s textures = do
+  k ← judge 4 1 (λ v. v) (known built)
   of_kind s textures k
-
--- what stands behind the front: the corners of triangles
-unfoldable pub a_body : Command → Reader Instruction
-a_body (kind.Pen p) = give (pen p)
-a_body (kind.Look w) = give (look w)
-a_body (kind.Clear c z) = give (clear c z)
-a_body (kind.Triangles n) = as_a triangles (times n a_triple)
-a_body kind.Show = give show
-
-unfoldable pub a_command : Size → ℕ → Reader Instruction
-a_command s textures = do
-  c ← a_head s textures
-  a_body c
 
 -- a texture's dots are the bytes behind its powers
 unfoldable pub a_texture : Reader Image
@@ -192,36 +173,43 @@ end a whole (x ∷ rest) = stop 1 (place whole (x ∷ rest))
 abbrev pub dots_letters : ℕ → Bool
 dots_letters v = v == value (68 ∷ 79 ∷ 84 ∷ 83 ∷ [])
 
-unfoldable pub a_file : Reader Verdict
-a_file = do
+unfoldable pub a_file : (ℕ → Bool) → Reader Verdict
+a_file built = do
   letters ← judge 2 4 (λ v. v) dots_letters
   width ← number 3 2 1 1024
   height ← number 3 2 1 1024
   textures ← number 3 1 0 64
   ts ← times textures a_texture
   commands ← number 3 2 0 65535
-  cs ← times commands (a_command (record { width = width; height = height }) textures)
+  cs ← times commands (a_command built (record { width = width; height = height }) textures)
   end (taken (record { width = width; height = height }) ts cs)
 
 abbrev pub verdict : Got Verdict → Verdict
 verdict (stop n p) = refused n p
 verdict (got v rest) = v
 
-unfoldable pub judged : List ℕ → Verdict
-judged file = verdict (a_file (length file) file)
+unfoldable pub judged : (ℕ → Bool) → List ℕ → Verdict
+judged built file = verdict (a_file built (length file) file)
 
 -- ---- the theorems of the file
+
+abbrev pub kind_of : Instruction → ℕ
+kind_of c = kind_number (header c)
+
+-- only kinds that there are
+abbrev pub AllBuilt : (ℕ → Bool) → List Instruction → Type 0
+AllBuilt built cs = All (λ c. built (kind_of c) ≡ true) cs
 
 -- every list in bounds has a file, which says just this list
 abbrev pub ReadBack : Type 0
 ReadBack =
-    (s : Size) (ts : List Image) (cs : List Instruction) → ListFits s ts cs → judged (file_of s ts cs) ≡ taken s ts cs
+    (built : ℕ → Bool) (s : Size) (ts : List Image) (cs : List Instruction) → ListFits s ts cs → AllBuilt built cs → judged built (file_of s ts cs) ≡ taken s ts cs
 
 -- a file that is taken is the file of what it says, which is in bounds
 abbrev pub WrittenSo : Type 0
 WrittenSo =
-    (b : List ℕ) (s : Size) (ts : List Image) (cs : List Instruction) → ((k : ℕ) → slice_index b k < 256) → judged b ≡ taken s ts cs →
-    ListFits s ts cs × (file_of s ts cs ≡ b)
+    (built : ℕ → Bool) (b : List ℕ) (s : Size) (ts : List Image) (cs : List Instruction) → ((k : ℕ) → slice_index b k < 256) → judged built b ≡ taken s ts cs →
+    ListFits s ts cs × AllBuilt built cs × (file_of s ts cs ≡ b)
 
 -- a file is one list of commands at most
 abbrev pub OneList : Type 0

@@ -1,25 +1,18 @@
--- What is written as a file: textures as parts of some bytes, commands and triangles as the code has them, and why a list is refused.
+-- What is written as a file: textures as parts of some bytes, commands as the code has them, and why a list is refused.
 -- Assumes nothing: these are definitions.
-use Rattle.std.specs.Prelude.{◌≡◌, ℕ, suc, ◌+◌, ◌-◌, ◌*◌, ◌^◌, ◌<◌, Bool, true, cond, ◌&&◌, List, [], ◌∷◌, map, length, take, drop, Some, None, Ok, Err, vec_items, Option, Result, Vec, ◌==◌, nat_le, nat_lt, slice_index, slice_index_or}
+use Rattle.std.specs.Prelude.{◌≡◌, ℕ, suc, ◌+◌, ◌-◌, ◌*◌, ◌^◌, ◌<◌, Bool, true, false, cond, ◌&&◌, List, [], ◌∷◌, ◌++◌, map, length, take, drop, Some, None, Ok, Err, vec_items, Option, Result, Vec, nat_le, slice_index}
 use Rattle.std.specs.declared.alloc.Global.{Global}
-use Rattle.std.specs.Option.{unwrap_or}
+use Rattle.std.specs.Option.{unwrap_or, option_to_list}
 use Rattle.meaning.specs.declared.command.Command.{Command}
 use Rattle.meaning.specs.declared.command.Command.TheVariants as kind
-use Rattle.meaning.specs.declared.geometry.Place.{Place}
 use Rattle.meaning.specs.declared.pen.Frame.{Frame}
-use Rattle.meaning.specs.declared.points.Corner.{Corner}
-use Rattle.meaning.specs.declared.projection.Row.{Row}
-use Rattle.meaning.specs.declared.projection.View.{View}
 use Rattle.meaning.specs.declared.state.Size.{Size}
-use Rattle.meaning.specs.Meaning.{Image, Instruction, pen, look, clear, triangles, show}
+use Rattle.meaning.specs.Meaning.{Image, Instruction, pen, clear, show}
 use Rattle.meaning.specs.Fits.{ListFits}
-use Rattle.meaning.specs.Fragments.{no_corner, triple}
 use Rattle.codec.specs.declared.part.TexturePart.{TexturePart}
 use Rattle.codec.specs.declared.writer.WriteError.{WriteError}
 use Rattle.codec.specs.declared.writer.WriteError.TheVariants as wrong
-use Rattle.codec.specs.File.{file_of}
-use Rattle.codec.specs.Judged.{within}
-use Rattle.codec.specs.Shows.{triangles_in}
+use Rattle.codec.specs.File.{all, command_bytes, file_of}
 
 -- how many bytes a texture's dots take
 abbrev pub part_size : TexturePart → ℕ
@@ -32,23 +25,21 @@ part_image bytes p = record { across = p.across; down = p.down; dots = take (par
 abbrev pub part_images : List ℕ → List TexturePart → List Image
 part_images bytes ps = map (part_image bytes) ps
 
--- what a command stands for; one of triangles takes the first of those that are left, three corners each
-abbrev pub instruction_of : Command → List (List Corner) → Instruction
-instruction_of (kind.Pen p) zs = pen p
-instruction_of (kind.Look w) zs = look w
-instruction_of (kind.Clear c z) zs = clear c z
-instruction_of (kind.Triangles n) zs = triangles (map triple (take n zs))
-instruction_of kind.Show zs = show
+-- what a command stands for; looks and triangles cannot be written yet
+abbrev pub instruction_of : Command → Option Instruction
+instruction_of (kind.Pen p) = Some (pen p)
+instruction_of (kind.Look w) = None
+instruction_of (kind.Clear c z) = Some (clear c z)
+instruction_of (kind.Triangles n) = None
+instruction_of kind.Show = Some show
 
--- the triangles of all commands are given in their order
-unfoldable pub instructions : List Command → List (List Corner) → List Instruction
-instructions [] zs = []
-instructions (c ∷ cs) zs = instruction_of c zs ∷ instructions cs (drop (triangles_in c) zs)
+unfoldable pub instructions : List Command → List Instruction
+instructions [] = []
+instructions (c ∷ cs) = option_to_list (instruction_of c) ++ instructions cs
 
--- how many triangles the commands have together
-unfoldable pub triangle_total : List Command → ℕ
-triangle_total [] = 0
-triangle_total (c ∷ cs) = triangles_in c + triangle_total cs
+-- the bytes of a command, none where it cannot be written yet
+abbrev pub command_part : Command → List ℕ
+command_part c = all command_bytes (option_to_list (instruction_of c))
 
 -- ---- what is in bounds
 
@@ -63,35 +54,20 @@ part_ok n p = (nat_le p.across 8 && nat_le p.down 8) && (nat_le p.start n && nat
 abbrev pub frame_ok : Size → Frame → Bool
 frame_ok s f = (nat_le f.left f.right && nat_le f.right s.width) && (nat_le f.top f.bottom && nat_le f.bottom s.height)
 
-abbrev pub row_ok : Row → Bool
-row_ok r = within 16777216 r.x && (within 16777216 r.y && (within 16777216 r.z && within 16777216 r.one))
-
-abbrev pub place_ok : Place → Bool
-place_ok p = within 524288 p.x && within 524288 p.y
-
-abbrev pub view_ok : View → Bool
-view_ok w = row_ok w.across && (row_ok w.down && (row_ok w.away && (nat_lt w.scale 1048576 && place_ok w.middle)))
-
 -- beside so many textures
 abbrev pub command_ok : Size → ℕ → Command → Bool
 command_ok s textures (kind.Pen p) = nat_le p.texture textures && frame_ok s p.frame
-command_ok s textures (kind.Look w) = view_ok w
+command_ok s textures (kind.Look w) = false
 command_ok s textures (kind.Clear c z) = true
-command_ok s textures (kind.Triangles n) = true
+command_ok s textures (kind.Triangles n) = false
 command_ok s textures kind.Show = true
-
-abbrev pub corner_ok : Corner → Bool
-corner_ok c = within 8388608 c.x && (within 8388608 c.y && within 8388608 c.z)
-
-abbrev pub triangle_ok : List Corner → Bool
-triangle_ok t = corner_ok (slice_index_or t 0 no_corner) && (corner_ok (slice_index_or t 1 no_corner) && corner_ok (slice_index_or t 2 no_corner))
 
 -- what the code's types say of a command that no test looks at
 abbrev pub Typed : Command → Type 0
 Typed (kind.Pen p) = Unit {0}
 Typed (kind.Look w) = Unit {0}
 Typed (kind.Clear c z) = (length c ≡ 3) × ((k : ℕ) → slice_index c k < 256) × (z < 65536)
-Typed (kind.Triangles n) = n < 65536
+Typed (kind.Triangles n) = Unit {0}
 Typed kind.Show = Unit {0}
 
 -- ---- why a list is refused
@@ -106,21 +82,14 @@ abbrev pub refused_at : (ℕ → WriteError) → Option ℕ → Option WriteErro
 refused_at as-error None after = after
 refused_at as-error (Some k) after = Some (as-error k)
 
--- of the triangles: there are just as many as the commands have, and each is in bounds
-unfoldable pub triangles_refusal : List Command → List (List Corner) → Option WriteError
-triangles_refusal cs zs =
-    cond (triangle_total cs == length zs)
-    (refused_at wrong.Triangle (first_not triangle_ok 0 zs) None)
-    (Some wrong.Triangles)
-
--- the first reason in this order, nothing where all is in bounds; the textures' dots lie in n bytes
-unfoldable pub refusal : Size → List TexturePart → ℕ → List Command → List (List Corner) → Option WriteError
-refusal s ps n cs zs =
+-- the first reason in the order of the file, nothing where all is in bounds; the textures' dots lie in n bytes
+unfoldable pub refusal : Size → List TexturePart → ℕ → List Command → Option WriteError
+refusal s ps n cs =
     cond (size_ok s)
     (cond (nat_le (length ps) 64)
     (refused_at wrong.Texture (first_not (part_ok n) 0 ps)
     (cond (nat_le (length cs) 65535)
-    (refused_at wrong.Command (first_not (command_ok s (length ps)) 0 cs) (triangles_refusal cs zs))
+    (refused_at wrong.Command (first_not (command_ok s (length ps)) 0 cs) None)
     (Some wrong.Commands)))
     (Some wrong.Textures))
     (Some wrong.Size)
@@ -128,12 +97,12 @@ refusal s ps n cs zs =
 -- ---- the promise
 
 -- all is in bounds, and the bytes are its file
-pub record IsFile (s : Size) (ps : List TexturePart) (dots : List ℕ) (cs : List Command) (zs : List (List Corner)) (bytes : List ℕ) : Type 0 where
-  pub judged : refusal s ps (length dots) cs zs ≡ None
-  pub fits : ListFits s (part_images dots ps) (instructions cs zs)
-  pub file : bytes ≡ file_of s (part_images dots ps) (instructions cs zs)
+pub record IsFile (s : Size) (ps : List TexturePart) (dots : List ℕ) (cs : List Command) (bytes : List ℕ) : Type 0 where
+  pub judged : refusal s ps (length dots) cs ≡ None
+  pub fits : ListFits s (part_images dots ps) (instructions cs)
+  pub file : bytes ≡ file_of s (part_images dots ps) (instructions cs)
 
 -- a list that is refused gives just its refusal; where nothing is refused, only memory can be wanting
-abbrev pub Written : Size → List TexturePart → List ℕ → List Command → List (List Corner) → Result (Vec ℕ Global) WriteError → Type 0
-Written s ps dots cs zs (Ok v) = IsFile s ps dots cs zs (vec_items v)
-Written s ps dots cs zs (Err e) = e ≡ unwrap_or (refusal s ps (length dots) cs zs) wrong.Memory
+abbrev pub Written : Size → List TexturePart → List ℕ → List Command → Result (Vec ℕ Global) WriteError → Type 0
+Written s ps dots cs (Ok v) = IsFile s ps dots cs (vec_items v)
+Written s ps dots cs (Err e) = e ≡ unwrap_or (refusal s ps (length dots) cs) wrong.Memory

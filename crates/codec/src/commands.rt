@@ -1,6 +1,6 @@
 // The commands of a file, each its kind and what it has.
-ghost use Rattle.codec.specs.Judged.{judge, known, times, a_clear, a_head, a_triple, a_command};
-ghost use Rattle.codec.specs.Kinds.{kind_code};
+ghost use Rattle.codec.specs.Judged.{judge, known, times, a_clear, a_command};
+ghost use Rattle.codec.specs.Kinds.{kind_code, built_yet};
 ghost use Rattle.codec.specs.Reader.{Reads, ReadsSome, as_it_is, Headed, SomeList};
 
 use crate::kind::Kind;
@@ -12,7 +12,7 @@ use meaning::state::Size;
 
 impl Reader<'_> {
     fn kind(&mut self) -> Result<Kind, Refusal>
-        ensures { Reads kind_code (judge 4 1 as_it_is known) self.old result self.new }
+        ensures { Reads kind_code (judge 4 1 as_it_is (known built_yet)) self.old result self.new }
     {
         let at = self.at;
         let bytes = self.take(1)?;
@@ -23,7 +23,7 @@ impl Reader<'_> {
     }
 
     fn clear(&mut self) -> Result<Command, Refusal>
-        ensures { Reads as_it_is a_clear self.old result self.new }
+        ensures { ReadsSome Headed a_clear self.old result self.new }
     {
         let bytes = self.take(3)?;
         let depth = self.word(Owner::Command, 0, 65535)?;
@@ -33,52 +33,23 @@ impl Reader<'_> {
         })
     }
 
-    // The front of a command, for a picture of this size and a file with so many textures: triangles are read only as how many, and their corners stand behind.
-    pub fn head(&mut self, size: Size, textures: u8) -> Result<Command, Refusal>
-        ensures { Reads as_it_is (a_head size textures) self.old result self.new }
+    // One command, for a picture of this size and a file with so many textures.
+    pub fn command(&mut self, size: Size, textures: u8) -> Result<Command, Refusal>
+        ensures { ReadsSome Headed (a_command built_yet size textures) self.old result self.new }
     {
         match self.kind()? {
             Kind::Pen => {
                 let pen = self.pen(size, textures)?;
                 Ok(Command::Pen(pen))
             }
-            Kind::Look => {
-                let view = self.view()?;
-                Ok(Command::Look(view))
-            }
             Kind::Clear => self.clear(),
-            Kind::Triangles => {
-                let many = self.word(Owner::Command, 0, 65535)?;
-                Ok(Command::Triangles(many))
-            }
             Kind::Show => Ok(Command::Show),
         }
     }
 
-    // The corners of so many triangles, which are judged here and read again later.
-    fn triangles(&mut self, many: u16) -> Result<(), Refusal>
-        ensures { ReadsSome (SomeList many) (times many a_triple) self.old result self.new }
-    {
-        for _ in 0..many {
-            self.triangle()?;
-        }
-        Ok(())
-    }
-
-    // One command with its corners.
-    pub fn command(&mut self, size: Size, textures: u8) -> Result<Command, Refusal>
-        ensures { ReadsSome Headed (a_command size textures) self.old result self.new }
-    {
-        let command = self.head(size, textures)?;
-        if let Command::Triangles(many) = command {
-            self.triangles(many)?;
-        }
-        Ok(command)
-    }
-
     // So many commands, which are judged here and read again later.
     pub fn commands(&mut self, many: u16, size: Size, textures: u8) -> Result<(), Refusal>
-        ensures { ReadsSome (SomeList many) (times many (a_command size textures)) self.old result self.new }
+        ensures { ReadsSome (SomeList many) (times many (a_command built_yet size textures)) self.old result self.new }
     {
         for _ in 0..many {
             self.command(size, textures)?;

@@ -1,6 +1,7 @@
 // A whole file, judged from front to back.
 ghost use Rattle.std.specs.Prelude.{◌≡◌};
 ghost use Rattle.codec.specs.Judged.{judge, dots_letters, a_file};
+ghost use Rattle.codec.specs.Kinds.{built_yet};
 ghost use Rattle.codec.specs.Reader.{Reads, ReadsSome, as_it_is, as_mark};
 ghost use Rattle.codec.specs.Verdicts.{Summed, VerdictIs};
 
@@ -27,14 +28,13 @@ impl Reader<'_> {
     // All that a file has, and nothing behind it.
     fn file(&mut self) -> Result<Summary, Refusal>
         requires { self.old.at ≡ 0 }
-        ensures { ReadsSome (Summed self.old.bytes.now) a_file self.old result self.new }
+        ensures { ReadsSome (Summed self.old.bytes.now) (a_file built_yet) self.old result self.new }
     {
         self.mark()?;
         let width = self.word(Owner::File, 1, 1024)?;
         let height = self.word(Owner::File, 1, 1024)?;
         let size = Size { width, height };
         let textures = self.byte(Owner::File, 0, 64)?;
-        let images = self.at;
         self.textures(textures)?;
         let commands = self.word(Owner::File, 0, 65535)?;
         let start = self.at;
@@ -45,7 +45,6 @@ impl Reader<'_> {
         Ok(Summary {
             size,
             textures,
-            images,
             commands,
             start,
         })
@@ -54,7 +53,7 @@ impl Reader<'_> {
 
 // Judges a file: what it has, or why it is refused.
 pub fn judge(file: &[u8]) -> Result<Summary, Refusal>
-    ensures { VerdictIs file.now result }
+    ensures { VerdictIs built_yet file.now result }
 {
     let mut reader = Reader { bytes: file, at: 0 };
     reader.file()

@@ -1,10 +1,8 @@
 // The file: a list of drawing commands as bytes.
 ghost use Rattle.codec.specs.Judged.{ReadBack, WrittenSo, OneList};
 
-mod bounds;
 pub mod bytes;
 pub mod commands;
-pub mod corners;
 pub mod judge;
 pub mod kind;
 pub mod numbers;
@@ -12,12 +10,10 @@ pub mod owner;
 pub mod part;
 pub mod pens;
 mod push;
-mod push_space;
 pub mod reader;
 pub mod refusal;
 pub mod summary;
 pub mod textures;
-pub mod views;
 pub mod walk;
 mod writable;
 pub mod writer;

@@ -1,4 +1,5 @@
 // The numbers of a pen.
+ghost use Rattle.meaning.specs.Meaning.{pen};
 ghost use Rattle.meaning.specs.Numbers.{test_number, mix_number};
 ghost use Rattle.codec.specs.Judged.{number, a_frame, a_pen};
 ghost use Rattle.codec.specs.Reader.{Reads, as_it_is};
@@ -50,7 +51,7 @@ impl Reader<'_> {
 
     // A pen that names one of the file's textures, or none.
     pub fn pen(&mut self, size: Size, textures: u8) -> Result<Pen, Refusal>
-        ensures { Reads as_it_is (a_pen size textures) self.old result self.new }
+        ensures { Reads pen (a_pen size textures) self.old result self.new }
     {
         let test = self.test()?;
         let keeps = self.byte(Owner::Command, 0, 1)?;

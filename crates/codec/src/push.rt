@@ -1,15 +1,11 @@
 // The parts of a file, pushed one behind another. What is pushed has been judged.
 ghost use Rattle.std.specs.Prelude.{◌≡◌, true, ◌∷◌, ◌++◌, length, None, OnOk};
 ghost use Rattle.codec.specs.File.{le, all, frame_bytes, pen_bytes, image_bytes, command_bytes};
-ghost use Rattle.codec.specs.Shows.{triangles_in};
-ghost use Rattle.codec.specs.Writing.{part_image, part_images, part_ok, first_not, instruction_of, instructions, triangle_total};
+ghost use Rattle.codec.specs.Writing.{part_image, part_images, part_ok, first_not, instructions, command_part};
 
 use crate::part::TexturePart;
-use crate::push_space::{push_look, push_triangles};
-use crate::walk::triangles_of;
 use meaning::command::Command;
 use meaning::pen::{Frame, Pen};
-use meaning::points::Corner;
 use std::alloc::AllocError;
 
 // A number of two bytes, the low one first.
@@ -54,47 +50,26 @@ fn push_clear(out: &mut Vec<u8>, colour: [u8; 3], depth: u16) -> Result<(), Allo
     Ok(())
 }
 
-// A command of any kind, beside the triangles that are its own.
-fn push_command(
-    out: &mut Vec<u8>,
-    command: Command,
-    triangles: &[[Corner; 3]],
-) -> Result<(), AllocError>
-    requires { length triangles.now ≡ triangles_in command }
-    ensures { OnOk result (out.new.items ≡ out.old.items ++ command_bytes (instruction_of command triangles.now)) }
+// A command of any kind; one that cannot be written yet adds nothing.
+fn push_command(out: &mut Vec<u8>, command: Command) -> Result<(), AllocError>
+    ensures { OnOk result (out.new.items ≡ out.old.items ++ command_part command) }
 {
     match command {
         Command::Pen(pen) => push_pen(out, pen),
-        Command::Look(view) => push_look(out, view),
         Command::Clear { colour, depth } => push_clear(out, colour, depth),
-        Command::Triangles(many) => {
-            out.push(4)?;
-            push_word(out, many)?;
-            push_triangles(out, triangles)?;
-            Ok(())
-        }
         Command::Show => {
             out.push(5)?;
             Ok(())
         }
+        Command::Look(_) | Command::Triangles(_) => Ok(()),
     }
 }
 
-// All commands; each takes its triangles behind those of the one before.
-pub(crate) fn push_commands(
-    out: &mut Vec<u8>,
-    commands: &[Command],
-    triangles: &[[Corner; 3]],
-) -> Result<(), AllocError>
-    requires { triangle_total commands.now ≡ length triangles.now }
-    ensures { OnOk result (out.new.items ≡ out.old.items ++ all command_bytes (instructions commands.now triangles.now)) }
+pub(crate) fn push_commands(out: &mut Vec<u8>, commands: &[Command]) -> Result<(), AllocError>
+    ensures { OnOk result (out.new.items ≡ out.old.items ++ all command_bytes (instructions commands.now)) }
 {
-    let mut at = 0;
     for command in commands {
-        let many = usize::from(triangles_of(*command));
-        let end = at + many;
-        push_command(out, *command, &triangles[at..end])?;
-        at = end;
+        push_command(out, *command)?;
     }
     Ok(())
 }

@@ -1,13 +1,10 @@
-// What a file that is taken has.
+// What a file that is taken has, and where its commands begin.
 use meaning::state::Size;
 
 #[derive(Clone, Copy)]
 pub struct Summary {
     pub size: Size,
     pub textures: u8,
-    // Where the textures begin.
-    pub images: usize,
     pub commands: u16,
-    // Where the commands begin.
     pub start: usize,
 }

@@ -1,16 +1,11 @@
-// The textures and commands of a file that was judged, read again. What each function requires holds after a judge that took the file.
+// The commands of a file that was judged, read again one at a time. What each function requires holds after a judge that took the file.
 ghost use Rattle.std.specs.Prelude.{◌≡◌, ◌*◌, ◌≤◌};
-ghost use Rattle.meaning.specs.Meaning.{image};
-ghost use Rattle.meaning.specs.Textures.{image_of, image_if};
-ghost use Rattle.codec.specs.Judged.{a_texture};
 ghost use Rattle.codec.specs.Shows.{counts, triangles_in, shows, triangle_count};
-ghost use Rattle.codec.specs.Walk.{There, Ahead, SomeHead, Head, SomeCorners, Corners, SomeTriangles, Passed, SomeTexture, Went, listed, pictured};
+ghost use Rattle.codec.specs.Walk.{There, Ahead, SomeNext, Next, listed};
 
 use crate::reader::Reader;
 use crate::summary::Summary;
 use meaning::command::Command;
-use meaning::points::Corner;
-use meaning::texture::Texture;
 
 // A reader before the first command.
 pub fn before_commands(file: &[u8], summary: Summary) -> Reader<'_>
@@ -23,69 +18,12 @@ pub fn before_commands(file: &[u8], summary: Summary) -> Reader<'_>
     }
 }
 
-// The front of the next command: there is one while fewer were read than the file has. The corners of its triangles are to be read or passed over then.
+// The next command: there is one while fewer were read than the file has.
 pub fn next(reader: &mut Reader<'_>, summary: Summary) -> Command
-    requires { SomeHead summary reader.old }
-    ensures { Head summary reader.old result reader.new }
+    requires { SomeNext summary reader.old }
+    ensures { Next summary reader.old result reader.new }
 {
-    reader.head(summary.size, summary.textures).unwrap()
-}
-
-// The corners of the next triangle.
-pub fn corners(reader: &mut Reader<'_>) -> [Corner; 3]
-    requires { SomeCorners reader.old }
-    ensures { Corners reader.old result reader.new }
-{
-    reader.triangle().unwrap()
-}
-
-// Passes over the corners of so many triangles, which have sixty bytes each.
-pub fn pass(reader: &mut Reader<'_>, many: u16)
-    requires { SomeTriangles many reader.old }
-    ensures { Passed many reader.old reader.new }
-{
-    reader.at += 60 * usize::from(many);
-}
-
-// A reader before the first texture.
-fn before_textures(file: &[u8], summary: Summary) -> Reader<'_>
-    requires { There file.now summary }
-    ensures bytes { result.bytes.now ≡ file.now }
-    ensures at { result.at ≡ summary.images }
-{
-    Reader {
-        bytes: file,
-        at: summary.images,
-    }
-}
-
-fn next_texture<'a>(reader: &mut Reader<'a>) -> Texture<'a>
-    requires { SomeTexture reader.old }
-    ensures { Went a_texture reader.old (image_of result) reader.new }
-{
-    reader.texture().unwrap()
-}
-
-// The texture of a number, 0 for none, where its dots lie in the file. One that the file does not have is without dots.
-pub fn texture(file: &[u8], summary: Summary, number: u8) -> Option<Texture<'_>>
-    requires { There file.now summary }
-    ensures { image_if result ≡ image (pictured file.now summary) number }
-{
-    if number == 0 {
-        return None;
-    }
-    let mut reader = before_textures(file, summary);
-    for k in 0..summary.textures {
-        let texture = next_texture(&mut reader);
-        if k + 1 == number {
-            return Some(texture);
-        }
-    }
-    Some(Texture {
-        across: 0,
-        down: 0,
-        dots: &file[0..0],
-    })
+    reader.command(summary.size, summary.textures).unwrap()
 }
 
 // What a list of commands asks of lent memory.
@@ -105,12 +43,12 @@ fn shows_of(command: Command) -> usize
     }
 }
 
-// How many triangles stand behind the front of a command.
-pub fn triangles_of(command: Command) -> u16
-    ensures { result ≡ triangles_in command }
+fn triangles_of(command: Command) -> usize
+    ensures value { result ≡ triangles_in command }
+    ensures few { result ≤ 65535 }
 {
     match command {
-        Command::Triangles(many) => many,
+        Command::Triangles(many) => usize::from(many),
         Command::Pen(_) | Command::Look(_) | Command::Clear { .. } | Command::Show => 0,
     }
 }
@@ -127,10 +65,8 @@ pub fn count(file: &[u8], summary: Summary) -> Counts
     let mut triangles = 0;
     for _ in 0..summary.commands {
         let command = next(&mut reader, summary);
-        let many = triangles_of(command);
-        pass(&mut reader, many);
         shows += shows_of(command);
-        triangles += usize::from(many);
+        triangles += triangles_of(command);
     }
     Counts { shows, triangles }
 }

@@ -7,11 +7,10 @@ use crate::part::TexturePart;
 use crate::push::{push_commands, push_textures, push_word};
 use crate::writable::judge;
 use meaning::command::Command;
-use meaning::points::Corner;
 use meaning::state::Size;
 use std::alloc::{AllocError, Global};
 
-// What is out of bounds, or that memory is wanting. A texture, a command and a triangle go by their place, from 0.
+// What is out of bounds, or that memory is wanting. A texture and a command go by their place, from 0.
 #[derive(Clone, Copy)]
 pub enum WriteError {
     Size,
@@ -19,9 +18,6 @@ pub enum WriteError {
     Texture(usize),
     Commands,
     Command(usize),
-    // there are more triangles than the commands have, or fewer
-    Triangles,
-    Triangle(usize),
     Memory,
 }
 
@@ -32,10 +28,9 @@ fn push_file(
     textures: &[TexturePart],
     dots: &[u8],
     commands: &[Command],
-    triangles: &[[Corner; 3]],
 ) -> Result<(), AllocError>
-    requires { refusal size textures.now (length dots.now) commands.now triangles.now ≡ None }
-    ensures { OnOk result (out.new.items ≡ out.old.items ++ file_of size (part_images dots.now textures.now) (instructions commands.now triangles.now)) }
+    requires { refusal size textures.now (length dots.now) commands.now ≡ None }
+    ensures { OnOk result (out.new.items ≡ out.old.items ++ file_of size (part_images dots.now textures.now) (instructions commands.now)) }
 {
     out.extend_from_slice(b"DOTS")?;
     push_word(out, size.width)?;
@@ -43,27 +38,26 @@ fn push_file(
     out.push(textures.len() as u8)?;
     push_textures(out, textures, dots)?;
     push_word(out, commands.len() as u16)?;
-    push_commands(out, commands, triangles)?;
+    push_commands(out, commands)?;
     Ok(())
 }
 
-// The file of a list of commands, or why there is none. The dots of the textures are parts of `dots`; the triangles of all commands are given in their order.
+// The file of a list of commands, or why there is none. The dots of the textures are parts of `dots`.
 pub fn write(
     heap: Global,
     size: Size,
     textures: &[TexturePart],
     dots: &[u8],
     commands: &[Command],
-    triangles: &[[Corner; 3]],
 ) -> Result<Vec<u8>, WriteError>
-    ensures { Written size textures.now dots.now commands.now triangles.now result }
+    ensures { Written size textures.now dots.now commands.now result }
 {
     // All is judged before a byte is written.
-    if let Some(error) = judge(size, textures, dots.len(), commands, triangles) {
+    if let Some(error) = judge(size, textures, dots.len(), commands) {
         return Err(error);
     }
     let mut out = Vec::new(heap);
-    match push_file(&mut out, size, textures, dots, commands, triangles) {
+    match push_file(&mut out, size, textures, dots, commands) {
         Ok(()) => Ok(out),
         Err(_) => Err(WriteError::Memory),
     }

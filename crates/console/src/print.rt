@@ -1,6 +1,7 @@
 // The pictures of a file on standard output.
 ghost use Rattle.std.specs.Prelude.{◌≡◌, IfOk};
 ghost use Rattle.codec.specs.Judged.{judged};
+ghost use Rattle.codec.specs.Kinds.{built_yet};
 ghost use Rattle.console.specs.Taken.{is_taken};
 
 use crate::memory::Memory;
@@ -57,7 +58,7 @@ pub fn print_pictures<P: Painter>(
     file: &[u8],
     ppm: Option<&str>,
 ) -> anyhow::Result<bool>
-    ensures { IfOk result (λ b. b ≡ is_taken (judged file.now)) }
+    ensures { IfOk result (λ b. b ≡ is_taken (judged built_yet file.now)) }
 {
     let needs = match measure(file) {
         Ok(needs) => needs,

@@ -4,6 +4,7 @@ use Rattle.std.proofs.Common.{◌≡◌, ℕ, zero, suc, ◌+◌, ◌*◌, ◌/�
 use mir.Syntax.{Width}
 use Rattle.std.proofs.lemmas.Int.{ints, to_z-of_z}
 use lib.Signed.{mag}
+use Rattle.std.specs.Int.{int_div_euclid}
 use Rattle.fixed_point.specs.Whole.{down}
 
 mag_neg : (k : ℕ) → mag (neg_ℤ (pos k)) ≤ k
@@ -32,6 +33,10 @@ down_mag (negsuc a) n = refl
 
 pub down_less : (a : ℤ) (n : ℕ) → mag (down a n) ≤ mag a
 down_less a n = rw (down_mag a n) (div-le_self (mag a) n)
+
+pub div_is_down : (a : ℤ) (n : ℕ) → int_div_euclid a (pos n) ≡ down a n
+div_is_down (pos a) n = refl
+div_is_down (negsuc a) n = refl
 
 -- a product, computed at a width at which it fits
 pub product_is : (w : Width) (a b x y : ℤ) → SFits w x → SFits w y → x ≡ a → y ≡ b →

@@ -1,9 +1,9 @@
-// All tiles of the picture. The words of the first triangle begin at `base` of the work.
+// All tiles of the picture.
 ghost use Rattle.std.specs.Prelude.{◌<◌, ◌≤◌};
 ghost use Rattle.codec.specs.Shows.{shows};
 ghost use Rattle.codec.specs.Walk.{There, listed};
 ghost use Rattle.reference.specs.Shows.{Room};
-ghost use Rattle.maker.specs.Tiles.{Equipped, Painted, whole};
+ghost use Rattle.maker.specs.Tiles.{Painted, whole};
 
 use crate::tile::paint_tile;
 use codec::summary::Summary;
@@ -24,18 +24,14 @@ fn tile_end(start: u16, edge: u16) -> u16
 fn paint_band(
     file: &[u8],
     summary: Summary,
-    work: &[u32],
-    base: usize,
     band: Frame,
     colours: &mut [u8],
     depths: &mut [u16],
     shown: &mut [u8],
 )
     requires there { There file.now summary }
-    requires equipped { Equipped file.now summary base work.now }
     requires across { band.left ≤ band.right }
-    requires right { band.right ≤ summary.size.width }
-    requires bottom { band.bottom ≤ summary.size.height }
+    requires inside { band.bottom ≤ summary.size.height }
     requires room { Room summary.size (shows (listed file.now summary)) colours.old depths.old shown.old }
     ensures { Painted file.now summary band colours.old depths.old shown.old colours.new depths.new shown.new }
 {
@@ -47,7 +43,7 @@ fn paint_band(
             right,
             ..band
         };
-        paint_tile(file, summary, work, base, tile, colours, depths, shown);
+        paint_tile(file, summary, tile, colours, depths, shown);
         left = right;
     }
 }
@@ -56,14 +52,11 @@ fn paint_band(
 pub(crate) fn paint_picture(
     file: &[u8],
     summary: Summary,
-    work: &[u32],
-    base: usize,
     colours: &mut [u8],
     depths: &mut [u16],
     shown: &mut [u8],
 )
     requires there { There file.now summary }
-    requires equipped { Equipped file.now summary base work.now }
     requires room { Room summary.size (shows (listed file.now summary)) colours.old depths.old shown.old }
     ensures { Painted file.now summary (whole summary.size) colours.old depths.old shown.old colours.new depths.new shown.new }
 {
@@ -77,7 +70,7 @@ pub(crate) fn paint_picture(
             right: size.width,
             bottom,
         };
-        paint_band(file, summary, work, base, band, colours, depths, shown);
+        paint_band(file, summary, band, colours, depths, shown);
         top = bottom;
     }
 }

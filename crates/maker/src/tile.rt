@@ -1,74 +1,55 @@
 // One tile of the picture through all commands. A tile is a frame, and only its dots are touched.
-ghost use Rattle.std.specs.Prelude.{◌≡◌, ◌+◌, ◌<◌, ◌≤◌};
+ghost use Rattle.std.specs.Prelude.{◌≡◌, ◌+◌, ◌<◌, ◌≤◌, true};
+ghost use Rattle.meaning.specs.Numbers.{kind_number};
+ghost use Rattle.codec.specs.Kinds.{built_yet};
 ghost use Rattle.codec.specs.Shows.{counts, shows};
 ghost use Rattle.codec.specs.Walk.{There, listed};
 ghost use Rattle.reference.specs.Shows.{Room};
-ghost use Rattle.maker.specs.Tiles.{Equipped, Expected, Obeyed, Painted};
+ghost use Rattle.maker.specs.Tiles.{Obeyed, Painted};
 
-use crate::triangles::paint_triangles;
 use codec::summary::Summary;
-use codec::walk::{before_commands, next, pass, texture, triangles_of};
+use codec::walk::{before_commands, next};
 use meaning::command::Command;
 use meaning::pen::{Frame, Pen};
-use meaning::state::{Dot, State};
+use meaning::projection::View;
+use meaning::state::{Dot, Size, State};
 use tile::boxes::{clear_box, meet, show_box};
 
-// What holds between two commands: the pen, how many pictures were shown, and where the words of the next triangle begin. Views were done with when the triangles were set up.
+// What holds between two commands: the pen, the view, and how many pictures were shown.
 #[derive(Clone, Copy)]
 pub struct Context {
     pub pen: Pen,
+    pub view: View,
     pub shown: u16,
-    pub next: usize,
 }
 
 // One command on a tile.
 fn obey(
-    file: &[u8],
-    summary: Summary,
-    work: &[u32],
     command: Command,
     context: Context,
+    size: Size,
     tile: Frame,
     colours: &mut [u8],
     depths: &mut [u16],
     shown: &mut [u8],
 ) -> Context
-    requires there { There file.now summary }
-    requires expected { Expected work.now context command }
-    requires right { tile.right ≤ summary.size.width }
-    requires bottom { tile.bottom ≤ summary.size.height }
+    requires kind { built_yet (kind_number command) ≡ true }
+    requires inside { tile.bottom ≤ size.height }
     requires few { context.shown < 65535 }
-    requires room { Room summary.size (context.shown + counts command) colours.old depths.old shown.old }
+    requires room { Room size (context.shown + counts command) colours.old depths.old shown.old }
     ensures few { result.shown ≤ context.shown + 1 }
-    ensures obeyed { Obeyed file.now summary work.now command tile context colours.old depths.old shown.old result colours.new depths.new shown.new }
+    ensures obeyed { Obeyed command size tile context colours.old depths.old shown.old result colours.new depths.new shown.new }
 {
-    let size = summary.size;
     match command {
         Command::Pen(pen) => Context { pen, ..context },
-        Command::Look(_) => context,
+        Command::Look(view) => Context { view, ..context },
         Command::Clear { colour, depth } => {
             let frame = meet(tile, context.pen.frame);
             clear_box(colours, depths, size, frame, Dot { colour, depth });
             context
         }
-        Command::Triangles(many) => {
-            let texture = texture(file, summary, context.pen.texture);
-            paint_triangles(
-                work,
-                context.next,
-                many,
-                context.pen,
-                texture,
-                size,
-                tile,
-                colours,
-                depths,
-            );
-            Context {
-                next: context.next + usize::from(many) * 16,
-                ..context
-            }
-        }
+        // Files with triangles are refused yet.
+        Command::Triangles(_) => unreachable(),
         Command::Show => {
             show_box(colours, shown, size, tile, context.shown);
             Context {
@@ -79,21 +60,17 @@ fn obey(
     }
 }
 
-// All commands on a tile, from the beginning. The words of the first triangle begin at `base`.
+// All commands on a tile, from the beginning.
 pub(crate) fn paint_tile(
     file: &[u8],
     summary: Summary,
-    work: &[u32],
-    base: usize,
     tile: Frame,
     colours: &mut [u8],
     depths: &mut [u16],
     shown: &mut [u8],
 )
     requires there { There file.now summary }
-    requires equipped { Equipped file.now summary base work.now }
-    requires right { tile.right ≤ summary.size.width }
-    requires bottom { tile.bottom ≤ summary.size.height }
+    requires inside { tile.bottom ≤ summary.size.height }
     requires room { Room summary.size (shows (listed file.now summary)) colours.old depths.old shown.old }
     ensures { Painted file.now summary tile colours.old depths.old shown.old colours.new depths.new shown.new }
 {
@@ -101,15 +78,12 @@ pub(crate) fn paint_tile(
     clear_box(colours, depths, summary.size, tile, begin.dot);
     let mut context = Context {
         pen: begin.pen,
+        view: begin.view,
         shown: 0,
-        next: base,
     };
     let mut reader = before_commands(file, summary);
     for _ in 0..summary.commands {
         let command = next(&mut reader, summary);
-        pass(&mut reader, triangles_of(command));
-        context = obey(
-            file, summary, work, command, context, tile, colours, depths, shown,
-        );
+        context = obey(command, context, summary.size, tile, colours, depths, shown);
     }
 }

@@ -10,15 +10,17 @@ use Rattle.meaning.specs.declared.command.Command.TheVariants.{Show}
 use Rattle.meaning.specs.declared.state.Size.{Size}
 use Rattle.meaning.specs.declared.state.Dot.{Dot}
 use Rattle.meaning.specs.declared.state.State.{State}
-use Rattle.meaning.specs.Meaning.{Image, Instruction, pen, look, clear, triangles, show, image, step, after, begin}
+use Rattle.meaning.specs.Meaning.{Image, Instruction, pen, look, clear, triangles, show, step, after, begin}
 use Rattle.meaning.specs.Numbers.{kind_number, header}
-use Rattle.meaning.specs.States.{obeyed, all_painting, corners_of}
-use Rattle.meaning.proofs.Obeying.{obeys}
+use Rattle.meaning.specs.States.{obeyed}
+use Rattle.codec.specs.Judged.{kind_of}
+use Rattle.codec.specs.Kinds.{built_yet}
 use Rattle.codec.specs.Shows.{counts, total, shows}
 use Rattle.reference.specs.Boxes.{in_box, Colours, Depths}
 use Rattle.reference.specs.Shows.{at_show, seen_dots, no_dot, Pictures}
 use Rattle.reference.specs.Dots.{OneDot}
 use Rattle.reference.proofs.Rows.{put_before, put_in, put_after, row_below}
+use Rattle.reference.proofs.Built.{obeyed_all}
 
 -- ---- places of dots
 
@@ -80,15 +82,6 @@ first_place w h i j = rw (zero-mul, zero-add)
 
 -- ---- commands
 
--- a command that was obeyed, and then its triangles, with the texture of the pen that holds then
-pub done_all : (ts : List Image) (i j : ℕ) (n : State) (c : Instruction) → all_painting (image ts (obeyed i j n (header c)).pen.texture) (corners_of c) i j (obeyed i j n (header c)) ≡ step ts i j n c
-unfolding step
-done_all ts i j n (pen p) = refl
-done_all ts i j n (look w) = refl
-done_all ts i j n (clear rgb z) = refl
-done_all ts i j n (triangles t) = obeys ts i j n (triangles t)
-done_all ts i j n show = refl
-
 -- dot (i, j) with some of the commands cs done: n is its state, `left` are to come, and m pictures were shown
 pub record SoFar (ts : List Image) (s : Size) (cs : List Instruction) (i j : ℕ) (S : List ℕ) (left : List Instruction) (n : State) (m : ℕ) (S' : List ℕ) : Type 0 where
   pub rest : after ts i j (begin s) cs ≡ after ts i j n left
@@ -110,10 +103,6 @@ is_show (clear rgb z) h = absurd (omega (arith, ap kind_number h))
 is_show (triangles t) h = absurd (omega (arith, ap kind_number h))
 is_show show h = refl
 
-pub show_step : (ts : List Image) (i j : ℕ) (n : State) (c : Instruction) → header c ≡ Show → step ts i j n c ≡ n
-unfolding step
-show_step ts i j n c h = rw (is_show c h)
-
 -- a picture more, at one dot
 added : (a b e l : Bool) (x v y : ℕ) → (a ≡ true → b ≡ true → e ≡ true → x ≡ v) → cond (a && (b && e)) x (cond (l && (a && b)) v y) ≡ cond ((l || e) && (a && b)) v y
 added a b e l x v y h = grind (arith, nat_tests)
@@ -126,16 +115,17 @@ module _ (ts : List Image) (s : Size) (cs : List Instruction) (i j : ℕ) (S : L
 
   module _ (left : List Instruction) (n : State) (m : ℕ) (S' : List ℕ) (c : Instruction) (o : SoFar ts s cs i j S (c ∷ left) n m S') where
     -- a command that shows nothing
-    pub so_far_silent : (header c ≡ Show → ⊥) → SoFar ts s cs i j S left (step ts i j n c) m S'
+    pub so_far_silent : built_yet (kind_of c) ≡ true → (header c ≡ Show → ⊥) → SoFar ts s cs i j S left (obeyed i j n (header c)) m S'
     unfolding after seen_dots total
-    so_far_silent silent =
+    so_far_silent built silent =
         let quiet = shows_nothing c silent in
-        record {
+        rw (obeyed_all ts i j n c built)
+        (record {
           rest = o.rest;
           seen = λ q. o.seen q ∙ rw quiet.1;
           many = omega (arith, o.many, quiet.0);
           shown = o.shown;
-        }
+        })
 
     -- a show, whose picture has the dot
     pub so_far_show : (S'' : List ℕ) → header c ≡ Show → i < s.width → j < s.height → OneDot ((m * s.height + j) * s.width + i) n.dot.colour S' S'' →

@@ -6,12 +6,13 @@ use Rattle.meaning.specs.declared.state.Size.{Size}
 use Rattle.meaning.specs.Meaning.{Image, Instruction, shown}
 use Rattle.codec.specs.declared.refusal.Refusal.{Refusal}
 use Rattle.codec.specs.Judged.{Verdict, refused, taken, judged}
+use Rattle.codec.specs.Kinds.{built_yet}
 use Rattle.codec.specs.Shows.{shows}
 use Rattle.codec.proofs.Files.{read_back}
-use Rattle.codec.specs.Walk.{pictured, listed}
+use Rattle.codec.specs.Walk.{listed}
 use Rattle.reference.specs.declared.job.Job.{Job}
 use Rattle.reference.specs.Boxes.{in_box}
-use Rattle.reference.specs.Dots.{Done}
+use Rattle.reference.specs.Shows.{Region}
 use Rattle.reference.specs.Whole.{pictures_in}
 use Rattle.reference.specs.Made.{dots, work_for, shown_for, lent, Leaves, Made, MadeIsMeant}
 use Rattle.reference.specs.Admitted.{Ready, Admitted}
@@ -30,17 +31,17 @@ module _ (file C D W S : List ℕ) where
   made_none e h = subst (λ (v : Verdict). Leaves v C D W S (Err e) C D W S) (sym h) (refl, refl, refl, refl, refl, refl)
 
   pub made_all : (j : Job) (C' D' W' S' : List ℕ) (r : Ready file (length C) (length D) (length W) (length S) j) → length C' ≡ length C → length D' ≡ length D → length S' ≡ length S →
-      Done file j.summary (in_box 0 0 j.summary.size.width j.summary.size.height) C D S C' D' S' →
+      Region r.images j.summary.size (listed file j.summary) (in_box 0 0 j.summary.size.width j.summary.size.height) C D S C' D' S' →
       Made file C D W S (Ok j.shows) C' D' W' S'
   made_all j C' D' W' S' r lc ld ls o =
       subst (λ (v : Verdict). Leaves v C D W S (Ok j.shows) C' D' W' S') (sym r.verdict)
-      (r.many, whole (pictured file j.summary) j.summary.size (listed file j.summary) C D S C' D' S' r.fits (record { colours = r.colours; depths = r.depths; shown = r.room }) lc ld ls o)
+      (r.many, whole r.images j.summary.size (listed file j.summary) C D S C' D' S' r.fits (record { colours = r.colours; depths = r.depths; shown = r.room }) lc ld ls o)
 
 -- ---- the pictures that are made are those that the commands mean
 pub made_is_meant : MadeIsMeant
-made_is_meant file C D W S r C' D' W' S' made s ts cs fits is more =
-    let verdict : judged file ≡ taken s ts cs = ap judged is ∙ read_back s ts cs fits in
-    let all : lent (judged file) (length C) (length D) (length W) (length S) ≡ taken s ts cs =
+made_is_meant file C D W S r C' D' W' S' made s ts cs fits built is more =
+    let verdict : judged built_yet file ≡ taken s ts cs = ap (λ (b : List ℕ). judged built_yet b) is ∙ read_back built_yet s ts cs fits built in
+    let all : lent (judged built_yet file) (length C) (length D) (length W) (length S) ≡ taken s ts cs =
     ap (λ (v : Verdict). lent v (length C) (length D) (length W) (length S)) verdict
     ∙ enough s ts cs (length C) (length D) (length W) (length S) more.colours more.depths more.work more.shown in
     go r (subst (λ (v : Verdict). Leaves v C D W S r C' D' W' S') all made)

@@ -5,7 +5,5 @@ pub mod Threes
 pub mod Wholes
 pub mod Steps
 pub mod Entering
+pub mod Built
 pub mod EachDot
-pub mod Triangles
-pub mod Changes
-pub mod Drawing

@@ -5,5 +5,3 @@ pub mod Laws
 pub mod Made
 pub mod Admitted
 pub mod Dots
-pub mod Changes
-pub mod Drawing

@@ -7,7 +7,8 @@ use Rattle.meaning.specs.Fits.{ListFits}
 use Rattle.codec.specs.declared.refusal.Refusal.{Refusal}
 use Rattle.codec.specs.Refusals.{refusal_number, refusal_place}
 use Rattle.codec.specs.File.{file_of}
-use Rattle.codec.specs.Judged.{Verdict, refused, taken, judged}
+use Rattle.codec.specs.Judged.{Verdict, refused, taken, judged, AllBuilt}
+use Rattle.codec.specs.Kinds.{built_yet}
 use Rattle.codec.specs.Shows.{shows, triangle_count}
 use Rattle.reference.specs.Whole.{pictures_in, Whole}
 
@@ -37,7 +38,7 @@ Leaves (taken s ts cs) C D W S (Err e) C' D' W' S' = ⊥
 Leaves (taken s ts cs) C D W S (Ok k) C' D' W' S' = (k ≡ shows cs) × Whole ts s cs C D S C' D' S'
 
 abbrev pub Made : List ℕ → List ℕ → List ℕ → List ℕ → List ℕ → Result ℕ Refusal → List ℕ → List ℕ → List ℕ → List ℕ → Type 0
-Made file C D W S r C' D' W' S' = Leaves (lent (judged file) (length C) (length D) (length W) (length S)) C D W S r C' D' W' S'
+Made file C D W S r C' D' W' S' = Leaves (lent (judged built_yet file) (length C) (length D) (length W) (length S)) C D W S r C' D' W' S'
 
 -- ---- the same pictures as the meaning's
 
@@ -48,13 +49,13 @@ pub record Enough (s : Size) (cs : List Instruction) (C D W S : List ℕ) : Type
   pub work : work_for s cs ≤ length W
   pub shown : shown_for s cs ≤ length S
 
--- the main promise: the file of any commands in bounds, with enough memory, shows the pictures that they mean, dot for dot
-abbrev pub Final : List ℕ → List ℕ → List ℕ → List ℕ → List ℕ → Result ℕ Refusal → List ℕ → Type 0
-Final file C D W S r S' =
-    (s : Size) (ts : List Image) (cs : List Instruction) → ListFits s ts cs → file ≡ file_of s ts cs → Enough s cs C D W S →
+-- the file of any commands in bounds, of the kinds that there are, with enough memory: the pictures that they mean are shown
+abbrev pub SamePictures : List ℕ → List ℕ → List ℕ → List ℕ → List ℕ → Result ℕ Refusal → List ℕ → Type 0
+SamePictures file C D W S r S' =
+    (s : Size) (ts : List Image) (cs : List Instruction) → ListFits s ts cs → AllBuilt built_yet cs → file ≡ file_of s ts cs → Enough s cs C D W S →
     (r ≡ Ok (length (shown ts s [] cs))) × (pictures_in (length (shown ts s [] cs)) s S' ≡ shown ts s [] cs)
 
 -- what is made is what the commands mean
 abbrev pub MadeIsMeant : Type 0
 MadeIsMeant =
-    (file C D W S : List ℕ) (r : Result ℕ Refusal) (C' D' W' S' : List ℕ) → Made file C D W S r C' D' W' S' → Final file C D W S r S'
+    (file C D W S : List ℕ) (r : Result ℕ Refusal) (C' D' W' S' : List ℕ) → Made file C D W S r C' D' W' S' → SamePictures file C D W S r S'

@@ -1,15 +1,14 @@
 // The pictures dot for dot: each dot goes through all commands, one after the other. What each function requires holds of a file that was admitted.
-ghost use Rattle.std.specs.Prelude.{◌≡◌, ◌+◌, ◌*◌, ◌<◌, ◌≤◌, length, slice_index, slice_index_or};
-ghost use Rattle.meaning.specs.Meaning.{after, begin};
+ghost use Rattle.std.specs.Prelude.{◌≡◌, ◌+◌, ◌*◌, ◌<◌, ◌≤◌, List, length, slice_index, slice_index_or};
+ghost use Rattle.meaning.specs.Meaning.{Image, after, begin};
 ghost use Rattle.codec.specs.Shows.{shows};
-ghost use Rattle.codec.specs.Walk.{There, TrianglesAhead, pictured, listed};
+ghost use Rattle.codec.specs.Walk.{There, listed};
 ghost use Rattle.reference.specs.Boxes.{in_box};
-ghost use Rattle.reference.specs.Shows.{seen_dots, no_dot, Pictures};
-ghost use Rattle.reference.specs.Dots.{Prepared, OneDot, Done, PaintedAll};
+ghost use Rattle.reference.specs.Shows.{seen_dots, no_dot, Pictures, Region};
+ghost use Rattle.reference.specs.Dots.{Prepared, OneDot};
 
-use codec::reader::Reader;
 use codec::summary::Summary;
-use codec::walk::{before_commands, corners, next, texture, triangles_of};
+use codec::walk::{before_commands, next};
 use meaning::command::Command;
 use meaning::state::{Dot, Size, State};
 
@@ -29,36 +28,14 @@ fn put_colour(colours: &mut [u8], place: usize, colour: [u8; 3])
     colours[place * 3..place * 3 + 3].copy_from_slice(&colour);
 }
 
-// Dot (i, j) after so many triangles, whose corners are read on the way.
-fn paint_all(
-    file: &[u8],
-    summary: Summary,
-    reader: &mut Reader<'_>,
-    many: u16,
-    i: u16,
-    j: u16,
-    mut state: State,
-) -> State
-    requires there { There file.now summary }
-    requires ahead { TrianglesAhead file.now summary many reader.old }
-    ensures { PaintedAll file.now summary many i j state reader.old result reader.new }
-{
-    let texture = texture(file, summary, state.pen.texture);
-    for _ in 0..many {
-        let corners = corners(reader);
-        state = state.paint(texture, corners, i, j);
-    }
-    state
-}
-
 // Dot (i, j) after all commands. At each show its colour goes to its place in that picture.
 fn obey_all(file: &[u8], summary: Summary, i: u16, j: u16, shown: &mut [u8]) -> Dot
     requires there { There file.now summary }
     requires across { i < summary.size.width }
     requires down { j < summary.size.height }
     requires room { ((shows (listed file.now summary) * summary.size.height) * summary.size.width) * 3 ≤ length shown.old }
-    ensures dot { result ≡ (after (pictured file.now summary) i j (begin summary.size) (listed file.now summary)).dot }
-    ensures shown { Pictures summary.size.width summary.size.height (shows (listed file.now summary)) (in_box i j (i + 1) (j + 1)) (λ q i j c. slice_index (slice_index_or (seen_dots (pictured file.now summary) i j (begin summary.size) (listed file.now summary)) q no_dot).colour c) shown.old shown.new }
+    ensures dot { (ts : List Image) → result ≡ (after ts i j (begin summary.size) (listed file.now summary)).dot }
+    ensures shown { (ts : List Image) → Pictures summary.size.width summary.size.height (shows (listed file.now summary)) (in_box i j (i + 1) (j + 1)) (λ q i j c. slice_index (slice_index_or (seen_dots ts i j (begin summary.size) (listed file.now summary)) q no_dot).colour c) shown.old shown.new }
 {
     let mut reader = before_commands(file, summary);
     let mut state = State::begin(summary.size);
@@ -66,15 +43,6 @@ fn obey_all(file: &[u8], summary: Summary, i: u16, j: u16, shown: &mut [u8]) -> 
     for _ in 0..summary.commands {
         let command = next(&mut reader, summary);
         state = state.obey(command, i, j);
-        state = paint_all(
-            file,
-            summary,
-            &mut reader,
-            triangles_of(command),
-            i,
-            j,
-            state,
-        );
         if let Command::Show = command {
             put_colour(
                 shown,
@@ -100,7 +68,7 @@ fn mean_dot(
     requires prepared { Prepared file.now summary colours.old depths.old shown.old }
     requires across { i < summary.size.width }
     requires down { j < summary.size.height }
-    ensures { Done file.now summary (in_box i j (i + 1) (j + 1)) colours.old depths.old shown.old colours.new depths.new shown.new }
+    ensures { (ts : List Image) → Region ts summary.size (listed file.now summary) (in_box i j (i + 1) (j + 1)) colours.old depths.old shown.old colours.new depths.new shown.new }
 {
     let dot = obey_all(file, summary, i, j, shown);
     let place = place_of(summary.size, 0, i, j);
@@ -119,7 +87,7 @@ fn mean_row(
 )
     requires prepared { Prepared file.now summary colours.old depths.old shown.old }
     requires down { j < summary.size.height }
-    ensures { Done file.now summary (in_box 0 j summary.size.width (j + 1)) colours.old depths.old shown.old colours.new depths.new shown.new }
+    ensures { (ts : List Image) → Region ts summary.size (listed file.now summary) (in_box 0 j summary.size.width (j + 1)) colours.old depths.old shown.old colours.new depths.new shown.new }
 {
     for i in 0..summary.size.width {
         mean_dot(file, summary, i, j, colours, depths, shown);
@@ -135,7 +103,7 @@ pub(crate) fn mean_rows(
     shown: &mut [u8],
 )
     requires { Prepared file.now summary colours.old depths.old shown.old }
-    ensures { Done file.now summary (in_box 0 0 summary.size.width summary.size.height) colours.old depths.old shown.old colours.new depths.new shown.new }
+    ensures { (ts : List Image) → Region ts summary.size (listed file.now summary) (in_box 0 0 summary.size.width summary.size.height) colours.old depths.old shown.old colours.new depths.new shown.new }
 {
     for j in 0..summary.size.height {
         mean_row(file, summary, j, colours, depths, shown);

@@ -1,5 +1,5 @@
 // The pictures of a file dot for dot, and what every maker of them promises.
-ghost use Rattle.reference.specs.Made.{Made, Final};
+ghost use Rattle.reference.specs.Made.{Made, SamePictures};
 
 use crate::dots::mean_rows;
 use crate::job::admit;
@@ -19,7 +19,7 @@ pub fn mean(
     shown: &mut [u8],
 ) -> Result<usize, Refusal>
     ensures made { Made file.now colours.old depths.old work.old shown.old result colours.new depths.new work.new shown.new }
-    ensures same { Final file.now colours.old depths.old work.old shown.old result shown.new }
+    ensures same { SamePictures file.now colours.old depths.old work.old shown.old result shown.new }
 {
     let job = admit(file, colours.len(), depths.len(), work.len(), shown.len())?;
     mean_rows(file, job.summary, colours, depths, shown);

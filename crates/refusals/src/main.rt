@@ -9,19 +9,7 @@ const FILE: [u8; 41] = [
     0, 0, 4, 0, 2, 0, 3, 255, 128, 0, 232, 3, 5,
 ];
 
-// One dot; a look, one triangle and a show.
-const SPACE: &[u8; 136] = b"DOTS\x01\x00\x01\x00\x00\x03\x00\
-    \x02\x00\x00\x01\x00\x00\x00\x00\x00\x00\x00\x00\x00\x00\x00\x00\x00\
-    \x00\x00\x00\x00\x00\x00\x01\x00\x00\x00\x00\x00\x00\x00\x00\x00\
-    \x00\x00\x00\x00\x00\x00\x00\x00\x00\x00\x01\x00\x00\x00\x00\x00\
-    \x00\x01\x00\x00\x00\x00\x00\x00\x00\x00\x00\x00\
-    \x04\x01\x00\
-    \x00\x00\x00\x00\x00\x00\x00\x00\x00\x01\x00\x00\x00\x00\x00\x00\xff\x00\x00\xff\
-    \x00\x04\x00\x00\x00\x00\x00\x00\x00\x01\x00\x00\x00\x00\x00\x00\xff\x00\x00\xff\
-    \x00\x00\x00\x00\x00\x04\x00\x00\x00\x01\x00\x00\x00\x00\x00\x00\xff\x00\x00\xff\
-    \x05";
-
-// Bytes of a file that are given other values.
+// Bytes of the file that are given other values.
 struct Change {
     bytes: &'static [(usize, u8)],
     what: &'static str,
@@ -174,97 +162,6 @@ const CHANGES: [Change; 36] = [
     },
 ];
 
-const SPACE_CHANGES: [Change; 22] = [
-    Change {
-        bytes: &[(12, 255), (13, 255), (14, 255), (15, 0)],
-        what: "a look's first number 2^24 - 1",
-    },
-    Change {
-        bytes: &[(12, 0), (13, 0), (14, 0), (15, 1)],
-        what: "a look's first number 2^24",
-    },
-    Change {
-        bytes: &[(12, 0), (13, 0), (14, 0), (15, 255)],
-        what: "a look's first number -2^24",
-    },
-    Change {
-        bytes: &[(12, 255), (13, 255), (14, 255), (15, 254)],
-        what: "a look's first number -2^24 - 1",
-    },
-    Change {
-        bytes: &[(56, 0), (57, 0), (58, 0), (59, 1)],
-        what: "a look's twelfth number 2^24",
-    },
-    Change {
-        bytes: &[(60, 255), (61, 255), (62, 15), (63, 0)],
-        what: "a scale of 2^20 - 1",
-    },
-    Change {
-        bytes: &[(60, 0), (61, 0), (62, 16), (63, 0)],
-        what: "a scale of 2^20",
-    },
-    Change {
-        bytes: &[(60, 0), (61, 0), (62, 0), (63, 128)],
-        what: "a scale of 2^31",
-    },
-    Change {
-        bytes: &[(64, 255), (65, 255), (66, 7), (67, 0)],
-        what: "a middle across at 524287",
-    },
-    Change {
-        bytes: &[(64, 0), (65, 0), (66, 8), (67, 0)],
-        what: "a middle across at 524288",
-    },
-    Change {
-        bytes: &[(64, 0), (65, 0), (66, 248), (67, 255)],
-        what: "a middle across at -524288",
-    },
-    Change {
-        bytes: &[(64, 255), (65, 255), (66, 247), (67, 255)],
-        what: "a middle across at -524289",
-    },
-    Change {
-        bytes: &[(68, 0), (69, 0), (70, 8), (71, 0)],
-        what: "a middle down at 524288",
-    },
-    Change {
-        bytes: &[(72, 6)],
-        what: "a command of kind 6 behind a look",
-    },
-    Change {
-        bytes: &[(73, 2)],
-        what: "two triangles, of which one is there",
-    },
-    Change {
-        bytes: &[(73, 0)],
-        what: "no triangles, behind which is one",
-    },
-    Change {
-        bytes: &[(75, 255), (76, 255), (77, 127), (78, 0)],
-        what: "a corner at x 2^23 - 1",
-    },
-    Change {
-        bytes: &[(75, 0), (76, 0), (77, 128), (78, 0)],
-        what: "a corner at x 2^23",
-    },
-    Change {
-        bytes: &[(75, 0), (76, 0), (77, 128), (78, 255)],
-        what: "a corner at x -2^23",
-    },
-    Change {
-        bytes: &[(75, 255), (76, 255), (77, 127), (78, 255)],
-        what: "a corner at x -2^23 - 1",
-    },
-    Change {
-        bytes: &[(123, 0), (124, 0), (125, 128), (126, 0)],
-        what: "a third corner at z 2^23",
-    },
-    Change {
-        bytes: &[(127, 255), (128, 255), (129, 255), (130, 255)],
-        what: "a third corner at u and v 65535",
-    },
-];
-
 // Lengths of lent memory: for 8 dots and one show 24 colours, 8 depths, 32 words of work and 24 bytes for what is shown are just enough.
 struct Lengths {
     colours: usize,
@@ -333,24 +230,6 @@ const LENT: [Lengths; 8] = [
     },
 ];
 
-// For one dot, one triangle and one show: 20 words of work.
-const SPACE_LENT: [Lengths; 2] = [
-    Lengths {
-        colours: 3,
-        depths: 1,
-        work: 20,
-        shown: 3,
-        what: "just enough memory",
-    },
-    Lengths {
-        colours: 3,
-        depths: 1,
-        work: 19,
-        shown: 3,
-        what: "a word of the triangle's short",
-    },
-];
-
 fn print_refusal(rt: &HostRuntime, what: &str, refusal: Refusal) -> anyhow::Result<()> {
     let number = refusal.number();
     let place = refusal.place();
@@ -358,9 +237,9 @@ fn print_refusal(rt: &HostRuntime, what: &str, refusal: Refusal) -> anyhow::Resu
     Ok(())
 }
 
-fn print_admission(rt: &HostRuntime, file: &[u8], lent: &Lengths) -> anyhow::Result<()> {
+fn print_admission(rt: &HostRuntime, lent: &Lengths) -> anyhow::Result<()> {
     let what = lent.what;
-    match admit(file, lent.colours, lent.depths, lent.work, lent.shown) {
+    match admit(&FILE, lent.colours, lent.depths, lent.work, lent.shown) {
         Ok(_) => println!(rt; "{what}: taken")?,
         Err(refusal) => print_refusal(rt, what, refusal)?,
     }
@@ -375,61 +254,36 @@ fn print_verdict(rt: &HostRuntime, what: &str, file: &[u8]) -> anyhow::Result<()
     Ok(())
 }
 
-// Whether a file is refused since its bytes end too early.
-fn is_short(file: &[u8]) -> bool {
-    match judge(file) {
-        Err(Refusal::Length(place)) => place == file.len(),
-        _ => false,
-    }
-}
-
 // The file cut off before each of its bytes.
-fn print_cuts(rt: &HostRuntime, file: &[u8]) -> anyhow::Result<()> {
-    let mut short = 0u32;
-    for n in 0..file.len() {
-        if is_short(&file[0..n]) {
-            short = short.saturating_add(1);
-        }
+fn cuts(rt: &HostRuntime) -> anyhow::Result<()> {
+    for n in 0..FILE.len() {
+        let what = format!(in rt.alloc(); "{n} bytes")?;
+        print_verdict(rt, what.as_str(), &FILE[0..n])?;
     }
-    let all = file.len();
-    println!(rt; "cut before each of {all} bytes: {short} refused 1 at their length")?;
     Ok(())
 }
 
-fn print_longer(rt: &HostRuntime, file: &[u8]) -> anyhow::Result<()> {
-    let mut longer = file.to_vec(rt.alloc())?;
-    longer.push(5)?;
-    print_verdict(rt, "a byte too many", &longer)
-}
-
-fn print_change(rt: &HostRuntime, file: &[u8], change: &Change) -> anyhow::Result<()> {
-    let mut changed = file.to_vec(rt.alloc())?;
+fn changed(change: &Change) -> [u8; 41] {
+    let mut file = FILE;
     for (at, value) in change.bytes {
-        if *at < changed.len() {
-            changed[*at] = *value;
+        if *at < file.len() {
+            file[*at] = *value;
         }
     }
-    print_verdict(rt, change.what, &changed)
+    file
 }
 
 fn run(rt: &HostRuntime) -> anyhow::Result<()> {
-    print_verdict(rt, "a file with a pen and a clear", &FILE)?;
-    print_cuts(rt, &FILE)?;
-    print_longer(rt, &FILE)?;
+    print_verdict(rt, "the file", &FILE)?;
+    cuts(rt)?;
+    let mut longer = FILE.to_vec(rt.alloc())?;
+    longer.push(5)?;
+    print_verdict(rt, "a byte too many", &longer)?;
     for change in &CHANGES {
-        print_change(rt, &FILE, change)?;
+        print_verdict(rt, change.what, &changed(change))?;
     }
     for lent in &LENT {
-        print_admission(rt, &FILE, lent)?;
-    }
-    print_verdict(rt, "a file with a look and a triangle", SPACE)?;
-    print_cuts(rt, SPACE)?;
-    print_longer(rt, SPACE)?;
-    for change in &SPACE_CHANGES {
-        print_change(rt, SPACE, change)?;
-    }
-    for lent in &SPACE_LENT {
-        print_admission(rt, SPACE, lent)?;
+        print_admission(rt, lent)?;
     }
     Ok(())
 }

@@ -7,7 +7,6 @@ use Rattle.reference.specs.Boxes.{from_to}
 
 -- what two frames have in common
 pub record Both (f g r : Frame) : Type 0 where
-  pub right : r.right ≤ f.right
   pub bottom : r.bottom ≤ f.bottom
   pub is : (i j : ℕ) → in_frame r i j ≡ (in_frame f i j && in_frame g i j)
 

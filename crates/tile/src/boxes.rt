@@ -1,5 +1,5 @@
 // Boxes of dots of a picture that lies by rows in lent slices. A box is a frame, a tile of the picture for one; where its left is not below its right it is empty.
-ghost use Rattle.std.specs.Prelude.{◌&&◌, ◌≡◌, ℕ, ◌+◌, ◌*◌, ◌/◌, ◌<◌, ◌≤◌, ltb, length, get_or};
+ghost use Rattle.std.specs.Prelude.{◌≡◌, ℕ, ◌+◌, ◌*◌, ◌/◌, ◌<◌, ◌≤◌, length, get_or};
 ghost use Rattle.meaning.specs.Meaning.{in_frame};
 ghost use Rattle.reference.specs.Boxes.{Colours, Depths};
 ghost use Rattle.reference.specs.Shows.{OnePicture};
@@ -18,13 +18,6 @@ pub fn meet(tile: Frame, frame: Frame) -> Frame
         right: tile.right.min(frame.right),
         bottom: tile.bottom.min(frame.bottom),
     }
-}
-
-// Whether a frame has any dot.
-pub fn has_dots(frame: Frame) -> bool
-    ensures { result ≡ (ltb frame.left frame.right && ltb frame.top frame.bottom) }
-{
-    frame.left < frame.right && frame.top < frame.bottom
 }
 
 // Where the dots from one to another begin and end among `length` dots.

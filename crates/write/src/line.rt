@@ -68,15 +68,6 @@ fn decimal(text: &[u8]) -> Option<u32> {
     Some(value)
 }
 
-// A decimal number with or without a sign, or nothing where it is none or too large.
-fn signed(text: &[u8]) -> Option<i32> {
-    match text {
-        [b'-', digits @ ..] => i32::try_from(decimal(digits)?).ok()?.checked_neg(),
-        [b'+', digits @ ..] => i32::try_from(decimal(digits)?).ok(),
-        _ => i32::try_from(decimal(text)?).ok(),
-    }
-}
-
 fn hex_digit(byte: u8) -> Option<u8> {
     match byte {
         b'0'..=b'9' => Some(byte - b'0'),
@@ -159,34 +150,6 @@ impl Line<'_> {
         }
     }
 
-    // A number of 16 bits from least to most.
-    pub(crate) fn short(
-        &mut self,
-        least: u16,
-        most: u16,
-        expected: &'static str,
-    ) -> Result<u16, Problem> {
-        let number = self.number(u32::from(least), u32::from(most), expected)?;
-        Ok((number % 65_536) as u16)
-    }
-
-    // A number with or without a sign, from least to most.
-    pub(crate) fn whole(
-        &mut self,
-        least: i32,
-        most: i32,
-        expected: &'static str,
-    ) -> Result<i32, Problem> {
-        let found = word_from(self.bytes, self.at);
-        match signed(found.text) {
-            Some(value) if least <= value && value <= most => {
-                self.at = found.end;
-                Ok(value)
-            }
-            _ => self.wrong(found.start, expected),
-        }
-    }
-
     // A colour of three bytes in six hexadecimal digits.
     pub(crate) fn three(&mut self, expected: &'static str) -> Result<[u8; 3], Problem> {
         let found = word_from(self.bytes, self.at);
@@ -218,13 +181,5 @@ impl Line<'_> {
             }
         }
         self.wrong(found.start, expected)
-    }
-    // A colour of three or four bytes; the fourth is ff where it is left out.
-    pub(crate) fn three_or_four(&mut self, expected: &'static str) -> Result<[u8; 4], Problem> {
-        if word_from(self.bytes, self.at).text.len() == 6 {
-            let [r, g, b] = self.three(expected)?;
-            return Ok([r, g, b, 0xff]);
-        }
-        self.four(expected)
     }
 }

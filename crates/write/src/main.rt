@@ -1,5 +1,4 @@
 // Makes a file of drawing commands from a text.
-use crate::draft::Draft;
 use crate::parse::parse;
 use crate::problem::Problem;
 use anyhow::anyhow;
@@ -10,10 +9,7 @@ use std::{env, fs};
 mod draft;
 mod line;
 mod parse;
-mod pens;
 mod problem;
-mod space;
-mod textures;
 
 const HELP: &str = "write TEXT FILE: makes a file of drawing commands from a text.\n\
     TEXT may be - for standard input, FILE may be - for standard output.\n\
@@ -45,38 +41,7 @@ fn reason(error: WriteError) -> &'static str {
         WriteError::Texture(_) => "a texture is out of range",
         WriteError::Commands => "there are more than 65535 commands",
         WriteError::Command(_) => "a command is out of range",
-        WriteError::Triangles => "there are more or fewer triangles than the commands have",
-        WriteError::Triangle(_) => "a triangle is out of range",
         WriteError::Memory => "there is not enough memory",
-    }
-}
-
-// What the text says; where it has an error that is printed.
-fn read_draft(rt: &HostRuntime, text: &str) -> anyhow::Result<Draft> {
-    match parse(rt.alloc(), text) {
-        Ok(draft) => Ok(draft),
-        Err(Problem::Text(error)) => {
-            let line = error.line;
-            let column = error.column;
-            let expected = error.expected;
-            eprintln!(rt; "write: line {line}, column {column}: expected {expected}")?;
-            Err(anyhow!("nothing was written"))
-        }
-        Err(Problem::Memory) => Err(anyhow!("there is not enough memory")),
-    }
-}
-
-fn make_file(rt: &HostRuntime, draft: &Draft, to: &str) -> anyhow::Result<()> {
-    match write(
-        rt.alloc(),
-        draft.size,
-        &draft.textures,
-        &draft.dots,
-        &draft.commands,
-        &draft.triangles,
-    ) {
-        Ok(bytes) => write_file(rt, to, &bytes),
-        Err(error) => Err(reason(error).into()),
     }
 }
 
@@ -94,8 +59,27 @@ fn run(rt: &HostRuntime) -> anyhow::Result<()> {
         return Err(anyhow!("no file is named; write --help says how"));
     };
     let text = read_text(rt, from.as_str())?;
-    let draft = read_draft(rt, text.as_str())?;
-    make_file(rt, &draft, to.as_str())
+    let draft = match parse(rt.alloc(), text.as_str()) {
+        Ok(draft) => draft,
+        Err(Problem::Text(error)) => {
+            let line = error.line;
+            let column = error.column;
+            let expected = error.expected;
+            eprintln!(rt; "write: line {line}, column {column}: expected {expected}")?;
+            return Err(anyhow!("nothing was written"));
+        }
+        Err(Problem::Memory) => return Err(anyhow!("there is not enough memory")),
+    };
+    match write(
+        rt.alloc(),
+        draft.size,
+        &draft.textures,
+        &draft.dots,
+        &draft.commands,
+    ) {
+        Ok(bytes) => write_file(rt, to.as_str(), &bytes),
+        Err(error) => Err(reason(error).into()),
+    }
 }
 
 // What went wrong was said, so an error only ends the program with status 1.

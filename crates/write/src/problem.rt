@@ -1,5 +1,5 @@
 // What can go wrong while a text is read.
-use std::alloc::AllocFailed;
+use std::alloc::{AllocError, AllocFailed};
 
 // Where a text goes wrong, lines and columns from 1 on, and what was expected there.
 #[derive(Clone, Copy)]
@@ -13,6 +13,12 @@ pub struct TextError {
 pub enum Problem {
     Text(TextError),
     Memory,
+}
+
+impl From<AllocError> for Problem {
+    fn from(_e: AllocError) -> Problem {
+        Problem::Memory
+    }
 }
 
 impl<T: Drop> From<AllocFailed<T>> for Problem {

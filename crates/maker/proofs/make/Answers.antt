@@ -1,4 +1,4 @@
-use Rattle.std.proofs.Common.{◌≡◌, ℕ, length, Ok, Err, Result, sym, ap, ◌∙◌, subst, arith, rules}
+use Rattle.std.proofs.Common.{ℕ, Ok, Err, Result, sym, ap, ◌∙◌, subst, rules}
 use Rattle.std.proofs.lemmas.Result.{err_from_is_err_and}
 use Rattle.codec.specs.declared.refusal.Refusal.{Refusal}
 use Rattle.reference.specs.Made.{Made}
@@ -17,30 +17,19 @@ returns-in-err-job c =
       same = made_is_meant a.file.now a.colours.now a.depths.now a.work.now a.shown.now r a.colours.now a.depths.now a.work.now a.shown.now m;
     }
 
-pub set-up-requires : goal.set-up-requires
-set-up-requires c =
-    let h = c.in-ok-job.ensures in
-    record { there = h.there; room = omega (arith, h.work, c.first-triangle-base.ensures) }
-
 pub paint-picture-requires : goal.paint-picture-requires
 paint-picture-requires c =
     let h = c.in-ok-job.ensures in
-    let long : length c.set-up.new.work ≡ length c.args.work.now = search rules in
-    record {
-      there = h.there;
-      equipped = record { stored = c.set-up.ensures; room = omega (arith, h.work, c.first-triangle-base.ensures, long) };
-      room = record { colours = h.colours; depths = h.depths; shown = h.room };
-    }
+    record { there = h.there; room = record { colours = h.colours; depths = h.depths; shown = h.room } }
 
 pub returns : goal.returns
 returns c =
     let a = c.args in
     let j = c.in-ok-job.job in
     let p = c.paint-picture.new in
-    let w = c.set-up.new.work in
     let h = c.in-ok-job.ensures in
-    let m = made_all a.file.now a.colours.now a.depths.now a.work.now a.shown.now j p.colours p.depths w p.shown h (search rules) (search rules) (search rules) c.paint-picture.ensures in
+    let m = made_all a.file.now a.colours.now a.depths.now a.work.now a.shown.now j p.colours p.depths a.work.now p.shown h (search rules) (search rules) (search rules) (c.paint-picture.ensures h.images) in
     record {
       made = m;
-      same = made_is_meant a.file.now a.colours.now a.depths.now a.work.now a.shown.now (Ok j.shows) p.colours p.depths w p.shown m;
+      same = made_is_meant a.file.now a.colours.now a.depths.now a.work.now a.shown.now (Ok j.shows) p.colours p.depths a.work.now p.shown m;
     }

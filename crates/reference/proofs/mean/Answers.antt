@@ -22,5 +22,5 @@ returns c =
     let a = c.args in
     let r = c.in-ok-job.ensures in
     let l = c.mean-rows.new in
-    let made = made_all a.file.now a.colours.now a.depths.now a.work.now a.shown.now c.in-ok-job.job l.colours l.depths a.work.now l.shown r (search rules) (search rules) (search rules) c.mean-rows.ensures in
+    let made = made_all a.file.now a.colours.now a.depths.now a.work.now a.shown.now c.in-ok-job.job l.colours l.depths a.work.now l.shown r (search rules) (search rules) (search rules) (c.mean-rows.ensures r.images) in
     record { made = made; same = made_is_meant a.file.now a.colours.now a.depths.now a.work.now a.shown.now _ l.colours l.depths a.work.now l.shown made }

@@ -9,7 +9,7 @@ pub returns-in-Ok : goal.returns-in-Ok
 returns-in-Ok c =
     record {
       judged = sym c.in-default.ensures.value;
-      fits = list_fits c.args.size c.args.textures.now c.args.dots.now c.args.commands.now c.args.triangles.now (λ k. omega (arith, c.type-inv.dots k)) (c.in-default.ensures.typed refl)
-          (c.in-default.ensures.fits refl) (sym c.in-default.ensures.value);
+      fits = list_fits c.args.size c.args.textures.now c.args.dots.now c.args.commands.now (λ k. omega (arith, c.type-inv.dots k)) (c.in-default.ensures.typed refl)
+          (sym c.in-default.ensures.value);
       file = rw c.new-out.ensures.items at c.in-Ok.ensures;
     }

@@ -1,5 +1,5 @@
 use Rattle.std.proofs.Common.{◌≡◌, ℕ, subst, arith}
-use Rattle.codec.specs.Walk.{pictured, listed}
+use Rattle.codec.specs.Walk.{listed}
 use Rattle.reference.specs.Boxes.{in_box}
 use Rattle.reference.proofs.Regions.{region_more, down}
 use Rattle.maker.specs.Tiles.{Painted}
@@ -10,13 +10,13 @@ loop-top-preserved c =
     let a = c.args in
     let s = a.summary.size in
     let o = c.loop-top in
-    let bottom = c.tile-end-bottom.result in
-    let on = c.tile-end-bottom.ensures.more c.loop-top-test.true in (
+    let bottom = c.tile-end-bottom.result in (
       omega arith,
-      region_more (pictured a.file.now a.summary) s (listed a.file.now a.summary) a.colours.now a.depths.now a.shown.now
+      λ ts.
+          region_more ts s (listed a.file.now a.summary) a.colours.now a.depths.now a.shown.now
           (in_box 0 0 s.width o.top) (in_box 0 o.top s.width bottom) (in_box 0 0 s.width bottom)
           o.colours o.depths o.shown c.paint-band.new.colours c.paint-band.new.depths c.paint-band.new.shown
-          (down 0 s.width 0 o.top bottom (omega arith) (omega (arith, on))) o.invariant.1 c.paint-band.ensures,
+          (down 0 s.width 0 o.top bottom (omega arith) (omega arith)) (o.invariant.1 ts) (c.paint-band.ensures ts),
     )
 
 pub returns : goal.returns

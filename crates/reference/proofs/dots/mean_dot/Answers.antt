@@ -1,7 +1,7 @@
 use Rattle.std.proofs.Common.{◌≡◌, ◌+◌, ◌*◌, get_or, ap, ◌∙◌, arith}
 use Rattle.meaning.specs.declared.state.Dot.{Dot}
 use Rattle.meaning.specs.Meaning.{after, begin}
-use Rattle.codec.specs.Walk.{pictured, listed}
+use Rattle.codec.specs.Walk.{listed}
 use Rattle.reference.proofs.Rows.{row_below}
 use Rattle.reference.proofs.EachDot.{dot_colours, dot_depths, first_place}
 use Rattle.reference.proofs.dots.mean_dot.Goals as goal
@@ -24,12 +24,12 @@ returns c =
     let s = a.summary.size in
     let cs = listed a.file.now a.summary in
     let e : c.place-of-place.result ≡ a.j * s.width + a.i = c.place-of-place.ensures ∙ first_place s.width s.height a.i a.j in
-    let ts = pictured a.file.now a.summary in
-    let is = c.obey-all-dot.ensures.dot in
+    λ ts.
+    let is = c.obey-all-dot.ensures.dot ts in
     record {
       colours = dot_colours s.width a.i a.j c.requires.across (λ i j k. get_or (after ts i j (begin s) cs).dot.colour k 0) c.obey-all-dot.result.colour a.colours.now c.put-colour.new.colours
           (λ k. ap (λ (d : Dot). get_or d.colour k 0) is) (rw e at c.put-colour.ensures);
       depths = rw e (dot_depths s.width a.i a.j c.requires.across (λ i j. (after ts i j (begin s) cs).dot.depth) c.obey-all-dot.result.depth a.depths.now (ap (λ (d : Dot). d.depth) is)
           (omega (arith, row_below s.width a.j s.height c.requires.down, c.requires.prepared.room.depths)));
-      shown = c.obey-all-dot.ensures.shown;
+      shown = c.obey-all-dot.ensures.shown ts;
     }

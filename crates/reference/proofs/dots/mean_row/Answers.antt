@@ -1,7 +1,7 @@
 use Rattle.std.proofs.Common.{◌≡◌, ℕ, ◌+◌, subst, arith}
-use Rattle.codec.specs.Walk.{pictured, listed}
+use Rattle.codec.specs.Walk.{listed}
 use Rattle.reference.specs.Boxes.{in_box}
-use Rattle.reference.specs.Dots.{Done}
+use Rattle.reference.specs.Shows.{Region}
 use Rattle.reference.proofs.Regions.{region_more, across}
 use Rattle.reference.proofs.dots.mean_row.Goals as goal
 
@@ -9,14 +9,14 @@ pub loop-i-preserved : goal.loop-i-preserved
 loop-i-preserved c =
     let a = c.args in
     let o = c.loop-i in
-    region_more (pictured a.file.now a.summary) a.summary.size (listed a.file.now a.summary) a.colours.now a.depths.now a.shown.now
+    λ ts. region_more ts a.summary.size (listed a.file.now a.summary) a.colours.now a.depths.now a.shown.now
     (in_box 0 a.j o.i (a.j + 1)) (in_box o.i a.j (o.i + 1) (a.j + 1)) (in_box 0 a.j (o.i + 1) (a.j + 1))
     o.colours o.depths o.shown c.mean-dot.new.colours c.mean-dot.new.depths c.mean-dot.new.shown
-    (across 0 o.i (o.i + 1) a.j (a.j + 1) (omega arith) (omega arith)) o.invariant c.mean-dot.ensures
+    (across 0 o.i (o.i + 1) a.j (a.j + 1) (omega arith) (omega arith)) (o.invariant ts) (c.mean-dot.ensures ts)
 
 pub returns : goal.returns
 returns c =
     let a = c.args in
     let o = c.loop-i in
     let e : o.i ≡ a.summary.size.width = omega arith in
-    subst (λ (m : ℕ). Done a.file.now a.summary (in_box 0 a.j m (a.j + 1)) a.colours.now a.depths.now a.shown.now o.colours o.depths o.shown) e o.invariant
+    λ ts. subst (λ (m : ℕ). Region ts a.summary.size (listed a.file.now a.summary) (in_box 0 a.j m (a.j + 1)) a.colours.now a.depths.now a.shown.now o.colours o.depths o.shown) e (o.invariant ts)

@@ -1,7 +1,7 @@
 use Rattle.std.proofs.Common.{◌≡◌, ℕ, ◌+◌, subst, arith}
-use Rattle.codec.specs.Walk.{pictured, listed}
+use Rattle.codec.specs.Walk.{listed}
 use Rattle.reference.specs.Boxes.{in_box}
-use Rattle.reference.specs.Dots.{Done}
+use Rattle.reference.specs.Shows.{Region}
 use Rattle.reference.proofs.Regions.{region_more, down}
 use Rattle.reference.proofs.dots.mean_rows.Goals as goal
 
@@ -10,14 +10,14 @@ loop-j-preserved c =
     let a = c.args in
     let o = c.loop-j in
     let w = a.summary.size.width in
-    region_more (pictured a.file.now a.summary) a.summary.size (listed a.file.now a.summary) a.colours.now a.depths.now a.shown.now
+    λ ts. region_more ts a.summary.size (listed a.file.now a.summary) a.colours.now a.depths.now a.shown.now
     (in_box 0 0 w o.j) (in_box 0 o.j w (o.j + 1)) (in_box 0 0 w (o.j + 1))
     o.colours o.depths o.shown c.mean-row.new.colours c.mean-row.new.depths c.mean-row.new.shown
-    (down 0 w 0 o.j (o.j + 1) (omega arith) (omega arith)) o.invariant c.mean-row.ensures
+    (down 0 w 0 o.j (o.j + 1) (omega arith) (omega arith)) (o.invariant ts) (c.mean-row.ensures ts)
 
 pub returns : goal.returns
 returns c =
     let a = c.args in
     let o = c.loop-j in
     let e : o.j ≡ a.summary.size.height = omega arith in
-    subst (λ (m : ℕ). Done a.file.now a.summary (in_box 0 0 a.summary.size.width m) a.colours.now a.depths.now a.shown.now o.colours o.depths o.shown) e o.invariant
+    λ ts. subst (λ (m : ℕ). Region ts a.summary.size (listed a.file.now a.summary) (in_box 0 0 a.summary.size.width m) a.colours.now a.depths.now a.shown.now o.colours o.depths o.shown) e (o.invariant ts)

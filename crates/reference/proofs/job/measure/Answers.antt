@@ -2,19 +2,20 @@ use Rattle.std.proofs.Common.{◌≡◌, ℕ, ◌+◌, ◌*◌, ◌<◌, ◌≤�
 use Rattle.meaning.specs.Fits.{ListFits}
 use Rattle.codec.specs.declared.summary.Summary.{Summary}
 use Rattle.codec.specs.Judged.{judged, taken}
+use Rattle.codec.specs.Kinds.{built_yet}
 use Rattle.codec.specs.Verdicts.{Summed}
-use Rattle.codec.specs.Walk.{pictured, listed}
+use Rattle.codec.specs.Walk.{listed}
 use Rattle.codec.proofs.Files.{written_so}
-use Rattle.codec.proofs.Walks.{there, same_images, same_list}
+use Rattle.codec.proofs.Walks.{there, same_list}
 use Rattle.reference.proofs.job.measure.Goals as goal
 
--- the file's verdict, by the lists that are read again
-verdict : (file : List ℕ) (m : Summary) → Summed file m (judged file) → judged file ≡ taken m.size (pictured file m) (listed file m)
-verdict file m h = h.verdict ∙ sym (λ i. taken m.size (same_images file m (judged file) h i) (same_list file m (judged file) h i))
+-- the file's verdict, by the list that is read again
+verdict : (file : List ℕ) (m : Summary) (h : Summed file m (judged built_yet file)) → judged built_yet file ≡ taken m.size h.0 (listed file m)
+verdict file m h = h.2 ∙ ap (taken m.size h.0) (sym (same_list file m (judged built_yet file) h))
 
 -- a file that is taken is in bounds
-bounds : (file : List ℕ) (m : Summary) → ((k : ℕ) → get_or file k 0 < 256) → Summed file m (judged file) → ListFits m.size (pictured file m) (listed file m)
-bounds file m below h = (written_so file m.size (pictured file m) (listed file m) below (verdict file m h)).0
+bounds : (file : List ℕ) (m : Summary) → ((k : ℕ) → get_or file k 0 < 256) → (h : Summed file m (judged built_yet file)) → ListFits m.size h.0 (listed file m)
+bounds file m below h = (written_so built_yet file m.size h.0 (listed file m) below (verdict file m h)).0
 
 pub count-counts-requires : goal.count-counts-requires
 count-counts-requires c = there c.args.file.now c.in-ok-summary.summary _ c.in-ok-summary.ensures
@@ -37,6 +38,7 @@ returns c =
     let en = c.count-counts.ensures.shows in
     let et = c.count-counts.ensures.triangles in
     record {
+      images = h.0;
       verdict = verdict c.args.file.now m h;
       there = there c.args.file.now m _ h;
       fits = bounds c.args.file.now m (λ k. (c.type-inv.file k).fits) h;

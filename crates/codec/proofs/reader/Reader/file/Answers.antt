@@ -1,10 +1,9 @@
 use Rattle.std.proofs.Common.{refl, ◌∙◌}
 use Rattle.std.proofs.lemmas.Result.{err_from_is_err_and}
 use Rattle.codec.specs.declared.summary.Summary.{Summary}
-use Rattle.codec.specs.Judged.{a_file, a_texture, times}
-use Rattle.codec.specs.Reader.{left}
+use Rattle.codec.specs.Judged.{a_file, times}
 use Rattle.codec.specs.Verdicts.{command}
-use Rattle.codec.proofs.Chains.{some_on, some_out, then_on, then_out, found_before, found_there, within_too}
+use Rattle.codec.proofs.Chains.{some_on, some_out, then_on, then_out, found_there, within_too}
 use Rattle.codec.proofs.Places.{end_more, end_all}
 use Rattle.codec.proofs.reader.Reader.file.Goals as goal
 
@@ -51,7 +50,7 @@ returns-in-err-commands c =
     (some_on _ c.in-ok-height.was c.word-2.ensures.reads
     (some_on _ c.in-ok-textures.was c.byte.ensures.reads
     (then_on _ c.in-ok-textures-2.was c.textures.ensures
-    (λ ts long-ts read-ts. some_out _ c.in-err-commands.was (err_from_is_err_and c.from-residual-in-err-commands.result c.from-residual-in-err-commands.ensures.1) c.word-3.ensures.reads)))))
+    (λ l4 h4 q4. some_out _ c.in-err-commands.was (err_from_is_err_and c.from-residual-in-err-commands.result c.from-residual-in-err-commands.ensures.1) c.word-3.ensures.reads)))))
 
 pub returns-in-err-commands-2 : goal.returns-in-err-commands-2
 unfolding a_file
@@ -61,7 +60,7 @@ returns-in-err-commands-2 c =
     (some_on _ c.in-ok-height.was c.word-2.ensures.reads
     (some_on _ c.in-ok-textures.was c.byte.ensures.reads
     (then_on _ c.in-ok-textures-2.was c.textures.ensures
-    (λ ts long-ts read-ts. some_on _ c.in-ok-commands.was c.word-3.ensures.reads
+    (λ l4 h4 q4. some_on _ c.in-ok-commands.was c.word-3.ensures.reads
     (then_out _ c.in-err-commands-2.was (err_from_is_err_and c.from-residual-in-err-commands-2.result c.from-residual-in-err-commands-2.ensures.1) c.commands.ensures))))))
 
 pub returns-then-self : goal.returns-then-self
@@ -72,39 +71,20 @@ returns-then-self c =
     (some_on _ c.in-ok-height.was c.word-2.ensures.reads
     (some_on _ c.in-ok-textures.was c.byte.ensures.reads
     (then_on _ c.in-ok-textures-2.was c.textures.ensures
-    (λ ts long-ts read-ts. some_on _ c.in-ok-commands.was c.word-3.ensures.reads
+    (λ l4 h4 q4. some_on _ c.in-ok-commands.was c.word-3.ensures.reads
     (then_on _ c.in-ok-commands-2.was c.commands.ensures
-    (λ cs long-cs read-cs. record { same = refl; is = end_more _ _ _ c.if-self.true })))))))
+    (λ l6 h6 q6. record { same = refl; is = end_more _ _ _ c.if-self.true })))))))
 
 pub returns : goal.returns
 unfolding a_file
 returns c =
-    let s1 = c.byte.ensures.reads.same ∙ c.word-2.ensures.reads.same ∙ c.word.ensures.reads.same ∙ c.mark.ensures.same in
-    let s2 = c.word-3.ensures.reads.same ∙ c.textures.ensures.same ∙ s1 in
-    let m : Summary = record { size = record { width = c.in-ok-width.width; height = c.in-ok-height.height }; textures = c.in-ok-textures.textures; images = c.byte.new.self.at; commands = c.in-ok-commands.commands; start = c.word-3.new.self.at } in
+    let s = c.word-3.ensures.reads.same ∙ c.textures.ensures.same ∙ c.byte.ensures.reads.same ∙ c.word-2.ensures.reads.same ∙ c.word.ensures.reads.same ∙ c.mark.ensures.same in
+    let m : Summary = record { size = record { width = c.in-ok-width.width; height = c.in-ok-height.height }; textures = c.in-ok-textures.textures; commands = c.in-ok-commands.commands; start = c.word-3.new.self.at } in
     some_on _ c.in-ok-mark.was c.mark.ensures
     (some_on _ c.in-ok-width.was c.word.ensures.reads
     (some_on _ c.in-ok-height.was c.word-2.ensures.reads
     (some_on _ c.in-ok-textures.was c.byte.ensures.reads
     (then_on _ c.in-ok-textures-2.was c.textures.ensures
-    (λ ts long-ts read-ts. some_on _ c.in-ok-commands.was c.word-3.ensures.reads
+    (λ l4 h4 q4. some_on _ c.in-ok-commands.was c.word-3.ensures.reads
     (then_on _ c.in-ok-commands-2.was c.commands.ensures
-    (λ cs long-cs read-cs. record {
-      same = refl;
-      is = (
-        _,
-        record {
-          ts = ts;
-          cs = cs;
-          verdict = refl;
-          many = long-ts;
-          images = within_too c.byte.new.self _ s1;
-          rest = left c.textures.new.self;
-          textures = found_before (times m.textures a_texture) c.byte.new.self _ _ s1 read-ts;
-          long = long-cs;
-          start = within_too c.word-3.new.self _ s2;
-          commands = found_there (times m.commands (command m)) c.word-3.new.self c.commands.new.self _ cs s2 c.if-self.false read-cs;
-        },
-        end_all _ _ _ c.if-self.false,
-      );
-    })))))))
+    (λ l6 h6 q6. record { same = refl; is = (_, (l4, l6, refl, h4, h6, within_too c.word-3.new.self _ s, found_there (times m.commands (command m)) c.word-3.new.self c.commands.new.self _ l6 s c.if-self.false q6), end_all _ _ _ c.if-self.false) })))))))
