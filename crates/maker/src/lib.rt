@@ -1,4 +1,6 @@
 // The pictures of a file, tile by tile.
+#![tactic(auto)]
+
 ghost use Rattle.reference.specs.Made.{Made, SamePictures};
 
 use crate::picture::paint_picture;

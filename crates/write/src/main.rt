@@ -1,4 +1,6 @@
 // Makes a file of drawing commands from a text.
+#![tactic(auto)]
+
 use crate::parse::parse;
 use crate::problem::Problem;
 use anyhow::anyhow;

@@ -10,9 +10,9 @@ pub returns-in-Clear : goal.returns-in-Clear
 unfolding all command_bytes
 returns-in-Clear c = search rules
 
-pub returns-in-ok-push : goal.returns-in-ok-push
+pub returns-in_ok-push-in-Show : goal.returns-in_ok-push-in-Show
 unfolding all command_bytes
-returns-in-ok-push c = search rules
+returns-in_ok-push-in-Show c = search rules
 
 pub returns-in-Look : goal.returns-in-Look
 unfolding all command_bytes

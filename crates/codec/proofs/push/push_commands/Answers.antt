@@ -13,7 +13,7 @@ pub loop-command-preserved : goal.loop-command-preserved
 unfolding instructions
 loop-command-preserved c =
     part_more left command_part (λ x l. all_append command_bytes (option_to_list (instruction_of x)) (instructions l)) c.args.commands.now c.loop-command.command-index _
-    (vec_items c.loop-command.out) _ _ c.loop-command-test.true c.in-ok-push-command.ensures c.loop-command.invariant
+    (vec_items c.loop-command.out) _ _ c.loop-command-test.true c.in_ok-push_command.ensures c.loop-command.invariant
 
 pub returns : goal.returns
 unfolding all instructions

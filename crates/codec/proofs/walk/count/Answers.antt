@@ -14,9 +14,9 @@ loop-preserved c =
     let m = ahead_more c.args.file.now c.args.summary c.loop.counter c.loop.reader v.0 v.1 c.loop-test.true c.next-command.result c.next-command.new.reader c.next-command.ensures in
     let e = total_more c.args.file.now c.args.summary c.loop.counter c.loop.reader v.0 v.1 c.loop-test.true counts c.next-command.result c.next-command.new.reader m in
     let f = total_more c.args.file.now c.args.summary c.loop.counter c.loop.reader v.0 v.1 c.loop-test.true triangles_in c.next-command.result c.next-command.new.reader m in (
-      omega (arith, c.shows-of-shows.ensures.few),
-      omega (arith, c.triangles-of-triangles.ensures.few),
-      (m.more, m.ahead, omega (arith, e, v.2, c.shows-of-shows.ensures.value), omega (arith, f, v.3, c.triangles-of-triangles.ensures.value)),
+      omega (arith, c.shows_of-shows.ensures.few),
+      omega (arith, c.triangles_of-triangles.ensures.few),
+      (m.more, m.ahead, omega (arith, e, v.2, c.shows_of-shows.ensures.value), omega (arith, f, v.3, c.triangles_of-triangles.ensures.value)),
     )
 
 pub returns : goal.returns

@@ -10,13 +10,13 @@ loop-top-preserved c =
     let a = c.args in
     let s = a.summary.size in
     let o = c.loop-top in
-    let bottom = c.tile-end-bottom.result in (
+    let bottom = c.tile_end-bottom.result in (
       omega arith,
       λ ts.
           region_more ts s (listed a.file.now a.summary) a.colours.now a.depths.now a.shown.now
           (in_box 0 0 s.width o.top) (in_box 0 o.top s.width bottom) (in_box 0 0 s.width bottom)
-          o.colours o.depths o.shown c.paint-band.new.colours c.paint-band.new.depths c.paint-band.new.shown
-          (down 0 s.width 0 o.top bottom (omega arith) (omega arith)) (o.invariant.1 ts) (c.paint-band.ensures ts),
+          o.colours o.depths o.shown c.paint_band.new.colours c.paint_band.new.depths c.paint_band.new.shown
+          (down 0 s.width 0 o.top bottom (omega arith) (omega arith)) (o.invariant.1 ts) (c.paint_band.ensures ts),
     )
 
 pub returns : goal.returns

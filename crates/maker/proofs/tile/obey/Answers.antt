@@ -54,8 +54,8 @@ returns-in-Clear c =
       few = omega arith;
       obeyed = λ ts cs left next C D S e o.
           through_clear ts a.size cs (in_frame a.tile) C D S left x.pen x.view x.shown a.colours.now a.depths.now a.shown.now
-          (in_frame c.meet-frame.result) c.in-Clear.colour c.in-Clear.depth c.clear-box.new.colours c.clear-box.new.depths (search rules)
-          c.meet-frame.ensures.is c.clear-box.ensures.colours c.clear-box.ensures.depths
+          (in_frame c.meet-frame.result) c.in-Clear.colour c.in-Clear.depth c.clear_box.new.colours c.clear_box.new.depths (search rules)
+          c.meet-frame.ensures.is c.clear_box.ensures.colours c.clear_box.ensures.depths
           (rw (said next a.command (Clear c.in-Clear.colour c.in-Clear.depth) e c.in-Clear.is) at o);
     }
 
@@ -66,6 +66,6 @@ returns-in-Show c =
     record {
       few = omega arith;
       obeyed = λ ts cs left next C D S e o.
-          through_show ts a.size cs (in_frame a.tile) C D S left x.pen x.view x.shown a.colours.now a.depths.now a.shown.now c.show-box.new.shown c.show-box.ensures
+          through_show ts a.size cs (in_frame a.tile) C D S left x.pen x.view x.shown a.colours.now a.depths.now a.shown.now c.show_box.new.shown c.show_box.ensures
           (rw (said next a.command Show e c.in-Show.is) at o);
     }

@@ -35,7 +35,7 @@ obey-context-requires c =
     let e : shows v.0 ≡ counts c.next-command.result + shows m.more =
     total_more a.file.now a.summary c.loop.counter c.loop.reader v.0 v.1 c.loop-test.true counts c.next-command.result c.next-command.new.reader m in
     let o = v.2 [] a.colours.now a.depths.now a.shown.now
-    (start [] s cs a.tile c.begin-begin.result a.colours.now a.depths.now a.shown.now c.clear-box.new.colours c.clear-box.new.depths c.begin-begin.ensures c.clear-box.ensures.colours c.clear-box.ensures.depths) in
+    (start [] s cs a.tile c.begin-begin.result a.colours.now a.depths.now a.shown.now c.clear_box.new.colours c.clear_box.new.depths c.begin-begin.ensures c.clear_box.ensures.colours c.clear_box.ensures.depths) in
     record {
       kind = next_built a.summary c.loop.reader c.next-command.result c.next-command.new.reader c.next-command.ensures;
       inside = c.requires.inside;
@@ -72,4 +72,4 @@ returns c =
     through_end ts s cs (in_frame a.tile) a.colours.now a.depths.now a.shown.now [] x.pen x.view x.shown c.loop.colours c.loop.depths c.loop.shown
     (subst (λ (l : List Instruction). Midway ts s cs a.tile a.colours.now a.depths.now a.shown.now l x c.loop.colours c.loop.depths c.loop.shown) e
     (v.2 ts a.colours.now a.depths.now a.shown.now
-    (start ts s cs a.tile c.begin-begin.result a.colours.now a.depths.now a.shown.now c.clear-box.new.colours c.clear-box.new.depths c.begin-begin.ensures c.clear-box.ensures.colours c.clear-box.ensures.depths)))
+    (start ts s cs a.tile c.begin-begin.result a.colours.now a.depths.now a.shown.now c.clear_box.new.colours c.clear_box.new.depths c.begin-begin.ensures c.clear_box.ensures.colours c.clear_box.ensures.depths)))

@@ -10,21 +10,21 @@ use Rattle.codec.proofs.BuiltKinds.{next_built}
 use Rattle.codec.proofs.Walks.{ahead_next, ahead_more, ahead_none, total_more}
 use Rattle.reference.proofs.EachDot.{SoFar, so_far_all, so_far_silent, so_far_show, dot_room}
 use Rattle.reference.proofs.dots.obey_all.Goals as goal
-use Rattle.reference.proofs.dots.obey_all.Goals.{in-Show, in-default}
+use Rattle.reference.proofs.dots.obey_all.Goals.{in-Show, in_default}
 
 pub next-command-requires : goal.next-command-requires
 next-command-requires c =
     let v = c.loop.invariant.1 in ahead_next c.args.file.now c.args.summary c.loop.counter c.loop.reader v.0 v.1 c.loop-test.true
 
-pub put-colour-requires : goal.put-colour-requires
-put-colour-requires c =
+pub put_colour-requires : goal.put_colour-requires
+put_colour-requires c =
     let a = c.args in
     let s = a.summary.size in
     let v = c.loop.invariant.1 in
     let m = ahead_more a.file.now a.summary c.loop.counter c.loop.reader v.0 v.1 c.loop-test.true c.next-command.result c.next-command.new.reader c.next-command.ensures in
     let e = total_more a.file.now a.summary c.loop.counter c.loop.reader v.0 v.1 c.loop-test.true counts c.next-command.result c.next-command.new.reader m in
     let n : c.loop.number < shows (listed a.file.now a.summary) = omega (arith, e, (v.2 []).many, ap counts c.in-Show.is) in
-    omega (arith, dot_room s.width s.height _ c.loop.number a.i a.j c.requires.across c.requires.down n, c.place-of.ensures, c.requires.room)
+    omega (arith, dot_room s.width s.height _ c.loop.number a.i a.j c.requires.across c.requires.down n, c.place_of.ensures, c.requires.room)
 
 pub loop-preserved : goal.loop-preserved
 loop-preserved c =
@@ -46,11 +46,11 @@ loop-preserved c =
               m.ahead,
               λ ts.
                   rw (e, w.number-is, w.shown-is)
-                  (so_far_show ts s cs a.i a.j a.shown.now m.more c.loop.state c.loop.number c.loop.shown m.next (o ts) w.put-colour.new.colours (m.head ∙ w.in-Show.is) c.requires.across c.requires.down
-                  (rw (w.place-of.ensures, e) at w.put-colour.ensures)),
+                  (so_far_show ts s cs a.i a.j a.shown.now m.more c.loop.state c.loop.number c.loop.shown m.next (o ts) w.put_colour.new.colours (m.head ∙ w.in-Show.is) c.requires.across c.requires.down
+                  (rw (w.place_of.ensures, e) at w.put_colour.ensures)),
             ),
           )
-      | in-default w ↦
+      | in_default w ↦
           let e : c.obey-state.result ≡ obeyed a.i a.j c.loop.state (header m.next) = c.obey-state.ensures ∙ ap (obeyed a.i a.j c.loop.state) (sym m.head) in (
             omega (arith, w.number-is),
             (
@@ -58,7 +58,7 @@ loop-preserved c =
               m.ahead,
               λ ts.
                   rw (e, w.number-is, w.shown-is)
-                  (so_far_silent ts s cs a.i a.j a.shown.now m.more c.loop.state c.loop.number c.loop.shown m.next (o ts) built (λ is. w.in-default.not-Show (sym m.head ∙ is))),
+                  (so_far_silent ts s cs a.i a.j a.shown.now m.more c.loop.state c.loop.number c.loop.shown m.next (o ts) built (λ is. w.in_default.not-Show (sym m.head ∙ is))),
             ),
           )
     ]
