@@ -9,7 +9,7 @@ use Rattle.meaning.specs.Numbers.{header}
 use Rattle.codec.specs.declared.summary.Summary.{Summary}
 use Rattle.codec.specs.Walk.{listed}
 use Rattle.reference.specs.Shows.{Region, Through}
-use Rattle.maker.specs.declared.tile.Context.{Context}
+use Rattle.maker.specs.declared.tiles.Context.{Context}
 
 -- the frame of the whole picture
 abbrev pub whole : Size → Frame

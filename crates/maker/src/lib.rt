@@ -8,7 +8,7 @@ use codec::refusal::Refusal;
 use reference::job::admit;
 
 mod picture;
-mod tile;
+mod tiles;
 
 // The pictures of a file, in lent memory: how many are shown, or why the file is refused.
 pub fn make(

@@ -80,7 +80,7 @@ fn run(rt: &HostRuntime) -> anyhow::Result<()> {
         &draft.commands,
     ) {
         Ok(bytes) => write_file(rt, to.as_str(), &bytes),
-        Err(error) => Err(reason(error).into()),
+        Err(error) => Err(anyhow!("{}", reason(error))),
     }
 }
 

@@ -10,7 +10,7 @@ use Rattle.reference.specs.Boxes.{Colours, Depths}
 use Rattle.reference.proofs.Steps.{through_start, through_end, room_for}
 use Rattle.maker.specs.Tiles.{Midway}
 use Rattle.codec.proofs.BuiltKinds.{next_built}
-use Rattle.maker.proofs.tile.paint_tile.Goals as goal
+use Rattle.maker.proofs.tiles.paint_tile.Goals as goal
 
 -- before the first command
 start : (ts : List Image) (s : Size) (cs : List Instruction) (f : Frame) (b : State) (C D S C' D' : List ℕ) → b ≡ begin s →

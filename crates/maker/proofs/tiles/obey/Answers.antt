@@ -4,7 +4,7 @@ use Rattle.meaning.specs.declared.command.Command.TheVariants.{Pen, Look, Clear,
 use Rattle.meaning.specs.Meaning.{Instruction, pen, look, clear, triangles, show, in_frame}
 use Rattle.meaning.specs.Numbers.{header}
 use Rattle.reference.proofs.Steps.{through_pen, through_look, through_clear, through_show}
-use Rattle.maker.proofs.tile.obey.Goals as goal
+use Rattle.maker.proofs.tiles.obey.Goals as goal
 
 -- the instruction that a command stands for, unless it has triangles
 abbrev Stands : Command → Instruction → Type 0

@@ -2,7 +2,7 @@ use Rattle.std.proofs.Common.{ℕ, ◌≤◌, List}
 use Rattle.meaning.specs.Meaning.{Image, Instruction}
 use Rattle.codec.specs.Walk.{Ahead, listed}
 use Rattle.maker.specs.Tiles.{Midway}
-use Rattle.maker.proofs.tile.paint_tile.Given as goal
+use Rattle.maker.proofs.tiles.paint_tile.Given as goal
 
 abbrev pub invariant-loop : goal.invariant-loop
 invariant-loop l =
