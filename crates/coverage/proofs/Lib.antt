@@ -1,4 +1,0 @@
-mod OneEdge
-mod Triangles
-mod Regions
-pub mod Standing

@@ -1,6 +1,0 @@
-// Triangles made ready: on the picture, turned to go with the clock, each with its box of dots.
-pub mod all;
-pub mod bounds;
-pub mod ready;
-pub mod triangle;
-pub mod words;
