@@ -1,13 +1,12 @@
 -- Numbers of the code that are judged when their bytes are taken, against those of the definition.
 -- Assumes nothing.
-use Rattle.std.proofs.Common.{◌≡◌, ℕ, ◌+◌, ◌*◌, ◌<◌, ◌≤◌, Bool, true, false, ◌&&◌, leb, ◌⊎◌, List, [], ◌∷◌, length, get_or, Ok, Err, Result, sym, refl, ap, ◌∙◌, inl, inr, arith, Bor, le-leb}
+use Rattle.std.proofs.Common.{◌≡◌, ℕ, ◌+◌, ◌*◌, ◌<◌, ◌≤◌, Bool, true, false, ◌&&◌, leb, ◌⊎◌, List, [], ◌∷◌, length, get_or, Ok, Err, Result, refl, ap, ◌∙◌, inl, inr, arith, Bor, le-leb}
 use borrow.Author.Tests.{lt-leb}
 use Rattle.std.proofs.lemmas.Bool.{and_from, and_left, and_right}
 use Rattle.codec.specs.declared.refusal.Refusal.{Refusal}
 use Rattle.codec.specs.declared.reader.Reader.{Reader}
 use Rattle.codec.specs.Refusals.{refusal_number, refusal_place}
-use Rattle.codec.specs.Judged as judged
-use Rattle.codec.specs.Judged.{Got, stop, got, bytes, value, judge, number}
+use Rattle.codec.specs.Judged.{stop, got, bytes, value, judge, number}
 use Rattle.codec.specs.Reader.{Reads, answer, left, as_bytes}
 use Rattle.codec.proofs.Places.{place_is}
 

@@ -1,6 +1,6 @@
 -- Commands read again from a file that was judged: each of them is there.
 -- Assumes nothing.
-use Rattle.std.proofs.Common.{◌≡◌, ℕ, zero, suc, ◌+◌, ◌-◌, ◌<◌, ◌≤◌, List, [], ◌∷◌, length, drop, sym, refl, ap, ◌∙◌, subst, arith}
+use Rattle.std.proofs.Common.{◌≡◌, ℕ, suc, ◌+◌, ◌-◌, ◌<◌, ◌≤◌, List, [], ◌∷◌, length, drop, sym, refl, ap, ◌∙◌, subst, arith}
 use Rattle.meaning.specs.declared.command.Command.{Command}
 use Rattle.meaning.specs.Meaning.{Instruction}
 use Rattle.meaning.specs.Numbers.{header}

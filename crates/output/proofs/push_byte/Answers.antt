@@ -1,4 +1,4 @@
-use Rattle.std.proofs.Common.{◌≡◌, ℕ, ◌/◌, ◌%◌, List, [], ◌∷◌, ◌++◌, vec_items, ap, ◌∙◌}
+use Rattle.std.proofs.Common.{ℕ, [], ◌∷◌, ◌++◌, vec_items, ap, ◌∙◌}
 use Rattle.output.proofs.Lines.{two}
 use Rattle.output.proofs.push_byte.Goals as goal
 

@@ -1,4 +1,4 @@
-use Rattle.std.proofs.Common.{ℕ, ◌*◌, min, ◌++◌, length, vec_items, ap, ◌∙◌}
+use Rattle.std.proofs.Common.{ℕ, ◌*◌, ◌++◌, vec_items, ap, ◌∙◌}
 use Rattle.output.specs.Text.{rows_text}
 use Rattle.output.proofs.Pictures.{rows_more, rows_end}
 use Rattle.output.proofs.push_rows.Goals as goal

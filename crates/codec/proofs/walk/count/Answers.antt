@@ -1,5 +1,4 @@
-use Rattle.std.proofs.Common.{◌≡◌, ℕ, ◌+◌, ◌≤◌, List, ap, ◌∙◌, arith}
-use Rattle.meaning.specs.Meaning.{Instruction}
+use Rattle.std.proofs.Common.{◌≡◌, ap, ◌∙◌, arith}
 use Rattle.codec.specs.Shows.{counts, triangles_in, total, shows, triangle_count}
 use Rattle.codec.proofs.Walks.{ahead_next, ahead_more, ahead_none, total_more, total_none}
 use Rattle.codec.proofs.walk.count.Goals as goal

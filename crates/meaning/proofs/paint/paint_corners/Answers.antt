@@ -1,4 +1,4 @@
-use Rattle.std.proofs.Common.{◌≡◌, ◌∙◌}
+use Rattle.std.proofs.Common.{◌∙◌}
 use Rattle.meaning.specs.Meaning.{triple_at}
 use Rattle.meaning.specs.Textures.{image_if}
 use Rattle.meaning.proofs.Painting.{hidden_first, hidden_second, hidden_third, all_seen}

@@ -1,4 +1,4 @@
-use Rattle.std.proofs.Common.{arith, rules}
+use Rattle.std.proofs.Common.{arith}
 use Rattle.meaning.specs.Meaning.{covers}
 use Rattle.meaning.proofs.triangle.is_covered.Goals as goal
 

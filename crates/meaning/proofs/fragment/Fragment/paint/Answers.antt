@@ -1,4 +1,4 @@
-use Rattle.std.proofs.Common.{◌≡◌, sym}
+use Rattle.std.proofs.Common.{sym}
 use Rattle.std.proofs.lemmas.Bool.{cond-true, cond-false}
 use Rattle.meaning.specs.Textures.{image_if}
 use Rattle.meaning.proofs.Painting.{painted_not, painted_so}

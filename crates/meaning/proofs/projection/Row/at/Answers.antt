@@ -1,9 +1,9 @@
-use Rattle.std.proofs.Common.{◌≡◌, ◌^◌, ◌<◌, ℤ, pos, ◌+ℤ◌, ◌*ℤ◌, ◌∙◌, arith, w32, rules}
+use Rattle.std.proofs.Common.{◌≡◌, ◌^◌, ◌<◌, pos, ◌+ℤ◌, ◌*ℤ◌, arith, w32, rules}
 use lib.Signed.{mag}
 use Rattle.fixed_point.proofs.Bounds.{plain_mul}
 use Rattle.fixed_point.specs.Whole.{down}
 use Rattle.meaning.specs.Meaning.{along}
-use Rattle.meaning.proofs.Rows.{Sums, sums, floor_is, narrow_64}
+use Rattle.meaning.proofs.Rows.{sums, floor_is, narrow_64}
 use Rattle.meaning.proofs.projection.Row.at.Goals as goal
 
 pub overflow_add-sum : goal.overflow_add-sum

@@ -1,7 +1,7 @@
-use Rattle.std.proofs.Common.{◌≡◌, false, ℤ, sym, ap, ◌∙◌, subst, w32, w64, SFits, rules}
+use Rattle.std.proofs.Common.{ℤ, sym, ap, ◌∙◌, subst, w64, SFits, rules}
 use Rattle.std.proofs.lemmas.Int.{to_z-of_z}
-use Rattle.meaning.specs.Meaning.{is_in_sight, in_bounds, point_x, point_y, along}
-use Rattle.meaning.specs.Parts.{Sighted, Bounded}
+use Rattle.meaning.specs.Meaning.{is_in_sight, in_bounds}
+use Rattle.meaning.specs.Parts.{Bounded}
 use Rattle.meaning.proofs.Seen.{hidden_away, hidden_x, hidden_y, sight, x_is, y_is, depth_is, seen, depth_fits}
 use Rattle.meaning.proofs.projection.View.point.Goals as goal
 

@@ -1,10 +1,4 @@
-use Rattle.std.proofs.Common.{◌≡◌, ℕ, ◌+◌, ◌^◌, ◌<◌, ◌≤◌, true, ℤ, pos, ◌≤ℤ◌, ◌<ℤ◌, sym, ◌∙◌, arith, rules}
-use lib.Signed.{mag}
-use Rattle.std.proofs.lemmas.Int.{ints}
-use Rattle.meaning.specs.declared.geometry.Place.{Place}
-use Rattle.meaning.specs.declared.points.Point.{Point}
-use Rattle.meaning.specs.Meaning.{edge, turns, covers}
-use Rattle.meaning.proofs.Depths.{weights}
+use Rattle.std.proofs.Common.{sym, rules}
 use Rattle.meaning.proofs.Weighing.{Computed, computed}
 use Rattle.meaning.proofs.weights.Weights.at.Goals as goal
 use Rattle.meaning.proofs.weights.Weights.at.Goals.{After-unsigned_abs-4, at-returns}

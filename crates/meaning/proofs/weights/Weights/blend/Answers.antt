@@ -1,4 +1,4 @@
-use Rattle.std.proofs.Common.{◌≡◌, ◌≤◌, sym, ◌∙◌, arith}
+use Rattle.std.proofs.Common.{◌≤◌, sym, arith}
 use Rattle.meaning.specs.Meaning.{blended, weighed}
 use Rattle.meaning.proofs.Shares.{small, mean_near}
 use Rattle.meaning.proofs.weights.Weights.blend.Goals as goal
