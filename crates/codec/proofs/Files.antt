@@ -1,7 +1,7 @@
 -- Whole files: what is written is read back, what is read was written so, and a file is one list at most.
 -- Assumes nothing.
 use Rattle.std.proofs.Common.{◌≡◌, ℕ, ◌≤◌, Bool, true, List, [], ◌∷◌, length, refl, subst, append-nil, arith}
-use Rattle.std.specs.List.{AllByRecursion as All}
+use Rattle.std.specs.List.{AllByRecursion}
 use Rattle.std.proofs.lemmas.Bool.{eqb-true, eq-eqb}
 use Rattle.std.proofs.ByRecursion.{All-weaker, All-from_get_or}
 use Rattle.meaning.specs.declared.state.Size.{Size}
@@ -22,7 +22,7 @@ letters_codec = like (tested_codec 2 4 dots_letters) (λ v h. (omega arith, eq-e
 size_codec : Codec (number 3 2 1 1024) (le 2) (λ v. (1 ≤ v) × (v ≤ 1024))
 size_codec = number_codec 3 2 1 1024 (omega arith)
 
-all_both : {A : Type 0} (P Q : A → Type 0) (l : List A) → All P l → All Q l → All (λ a. P a × Q a) l
+all_both : {A : Type 0} (P Q : A → Type 0) (l : List A) → AllByRecursion P l → AllByRecursion Q l → AllByRecursion (λ a. P a × Q a) l
 all_both P Q [] h g = tt
 all_both P Q (a ∷ l) h g = ((h.0, g.0), all_both P Q l h.1 g.1)
 

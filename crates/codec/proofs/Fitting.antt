@@ -1,7 +1,7 @@
 -- What has been judged is in bounds.
 -- Assumes nothing.
 use Rattle.std.proofs.Common.{◌≡◌, ℕ, ◌-◌, ◌<◌, ◌≤◌, true, leb, List, [], ◌∷◌, ◌++◌, length, get_or, drop, Some, None, Option, refl, one-add, arith}
-use Rattle.std.specs.List.{AllByRecursion as All}
+use Rattle.std.specs.List.{AllByRecursion}
 use Rattle.std.specs.Option.{option_to_list}
 use Rattle.std.proofs.ByRecursion.{All-from_get_or, All-append, All-take, All-drop, All-map, All-weaker}
 use Rattle.std.proofs.lemmas.List.{length-append, length-drop, length-map, length-take-le}
@@ -51,7 +51,7 @@ image_fits dots b p h =
       bytes = All-take _ (part_size p) (drop p.start dots) (All-drop _ p.start dots b);
     }
 
-instruction_fits : (s : Size) (ts : List Image) (n : ℕ) → length ts ≡ n → (c : Command) → command_ok s n c ≡ true → Typed c → All (InstructionFits s ts) (option_to_list (instruction_of c))
+instruction_fits : (s : Size) (ts : List Image) (n : ℕ) → length ts ≡ n → (c : Command) → command_ok s n c ≡ true → Typed c → AllByRecursion (InstructionFits s ts) (option_to_list (instruction_of c))
 instruction_fits s ts n e (kind.Pen p) h t = (
   record {
     texture = grind (arith, nat_tests);
@@ -64,8 +64,8 @@ instruction_fits s ts n e (kind.Clear c z) h t = ((t.0, All-from_get_or (λ b. b
 instruction_fits s ts n e (kind.Triangles k) h t = absurd (grind arith)
 instruction_fits s ts n e kind.Show h t = (tt, tt)
 
-instructions_fit : (s : Size) (ts : List Image) (n : ℕ) → length ts ≡ n → (cs : List Command) → All (λ c. command_ok s n c ≡ true) cs → All Typed cs →
-    All (InstructionFits s ts) (instructions cs)
+instructions_fit : (s : Size) (ts : List Image) (n : ℕ) → length ts ≡ n → (cs : List Command) → AllByRecursion (λ c. command_ok s n c ≡ true) cs → AllByRecursion Typed cs →
+    AllByRecursion (InstructionFits s ts) (instructions cs)
 unfolding instructions
 instructions_fit s ts n e [] h t = tt
 instructions_fit s ts n e (c ∷ cs) h t =
@@ -79,13 +79,13 @@ one_instruction s n (kind.Clear c z) h = refl
 one_instruction s n (kind.Triangles k) h = absurd (grind arith)
 one_instruction s n kind.Show h = refl
 
-length_instructions : (s : Size) (n : ℕ) (cs : List Command) → All (λ c. command_ok s n c ≡ true) cs → length (instructions cs) ≡ length cs
+length_instructions : (s : Size) (n : ℕ) (cs : List Command) → AllByRecursion (λ c. command_ok s n c ≡ true) cs → length (instructions cs) ≡ length cs
 unfolding instructions
 length_instructions s n [] h = refl
 length_instructions s n (c ∷ cs) h =
     rw (length-append, one_instruction s n c h.0, length_instructions s n cs h.1) (one-add (length cs))
 
-pub list_fits : (s : Size) (ps : List TexturePart) (dots : List ℕ) (cs : List Command) → ((k : ℕ) → get_or dots k 0 < 256) → All Typed cs → refusal s ps (length dots) cs ≡ None →
+pub list_fits : (s : Size) (ps : List TexturePart) (dots : List ℕ) (cs : List Command) → ((k : ℕ) → get_or dots k 0 < 256) → AllByRecursion Typed cs → refusal s ps (length dots) cs ≡ None →
     ListFits s (part_images dots ps) (instructions cs)
 list_fits s ps dots cs bytes typed h =
     let f = fine s ps (length dots) cs h in

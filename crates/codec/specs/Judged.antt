@@ -9,7 +9,7 @@ use Rattle.meaning.specs.declared.state.Size.{Size}
 use Rattle.meaning.specs.Meaning.{Image, Triple, Instruction, pen, look, clear, triangles, show}
 use Rattle.meaning.specs.Numbers.{test_of, mix_of, kind_number, header}
 use Rattle.meaning.specs.Fits.{ListFits}
-use Rattle.std.specs.List.{AllByRecursion as All}
+use Rattle.std.specs.List.{AllByRecursion}
 use Rattle.codec.specs.File.{file_of}
 
 pub data Verdict : Type 0 where
@@ -198,7 +198,7 @@ kind_of c = kind_number (header c)
 
 -- only kinds that there are
 abbrev pub AllBuilt : (ℕ → Bool) → List Instruction → Type 0
-AllBuilt built cs = All (λ c. built (kind_of c) ≡ true) cs
+AllBuilt built cs = AllByRecursion (λ c. built (kind_of c) ≡ true) cs
 
 -- every list in bounds has a file, which says just this list
 abbrev pub ReadBack : Type 0

@@ -1,6 +1,6 @@
 // Whether a list of commands is in bounds, so that it can be written as a file.
 ghost use Rattle.std.specs.Prelude.{◌≡◌, None};
-ghost use Rattle.std.specs.List.{AllByRecursion as All};
+ghost use Rattle.std.specs.List.{AllByRecursion};
 ghost use Rattle.codec.specs.Writing.{size_ok, part_ok, frame_ok, command_ok, Typed, first_not, refusal};
 
 use crate::part::TexturePart;
@@ -51,7 +51,7 @@ fn bad_texture(textures: &[TexturePart], bytes: usize) -> Option<usize>
 // The first command that cannot be written.
 fn bad_command(commands: &[Command], size: Size, textures: usize) -> Option<usize>
     ensures value { result ≡ first_not (command_ok size textures) 0 commands.now }
-    ensures typed { result ≡ None → All Typed commands.now }
+    ensures typed { result ≡ None → AllByRecursion Typed commands.now }
 {
     for (k, command) in commands.iter().enumerate() {
         if !is_command(*command, size, textures) {
@@ -69,7 +69,7 @@ pub(crate) fn judge(
     commands: &[Command],
 ) -> Option<WriteError>
     ensures value { result ≡ refusal size textures.now bytes commands.now }
-    ensures typed { result ≡ None → All Typed commands.now }
+    ensures typed { result ≡ None → AllByRecursion Typed commands.now }
 {
     if !is_size(size) {
         return Some(WriteError::Size);
