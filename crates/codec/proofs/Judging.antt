@@ -1,12 +1,13 @@
 -- Numbers of the code that are judged when their bytes are taken, against those of the definition.
 -- Assumes nothing.
-use Rattle.std.proofs.Common.{◌≡◌, ℕ, ◌+◌, ◌*◌, ◌<◌, ◌≤◌, Bool, true, false, ◌&&◌, leb, ◌⊎◌, List, [], ◌∷◌, length, get_or, Ok, Err, Result, refl, ap, ◌∙◌, inl, inr, arith, Bor, le-leb}
+use Rattle.std.proofs.Common.{◌≡◌, ℕ, suc, ◌+◌, ◌-◌, ◌*◌, ◌^◌, ◌<◌, ◌≤◌, Bool, true, false, cond, ◌&&◌, ltb, leb, ◌⊎◌, List, [], ◌∷◌, length, get_or, ℤ, pos, negsuc, ◌-ℤ◌, Ok, Err, Result, sym, refl, ap, ◌∙◌, inl, inr, arith, w32, to_z, Bor, le-leb}
 use borrow.Author.Tests.{lt-leb}
 use Rattle.std.proofs.lemmas.Bool.{and_from, and_left, and_right}
+use Rattle.std.proofs.lemmas.Int.{ints}
 use Rattle.codec.specs.declared.refusal.Refusal.{Refusal}
 use Rattle.codec.specs.declared.reader.Reader.{Reader}
 use Rattle.codec.specs.Refusals.{refusal_number, refusal_place}
-use Rattle.codec.specs.Judged.{stop, got, bytes, value, judge, number}
+use Rattle.codec.specs.Judged.{stop, got, bytes, value, twos, judge, number}
 use Rattle.codec.specs.Reader.{Reads, answer, left, as_bytes}
 use Rattle.codec.proofs.Places.{place_is}
 
@@ -77,3 +78,33 @@ value_four (a ∷ b ∷ []) h = omega arith
 value_four (a ∷ b ∷ c ∷ []) h = omega arith
 value_four (a ∷ b ∷ c ∷ d ∷ []) h = omega arith
 value_four (a ∷ b ∷ c ∷ d ∷ e ∷ l) h = omega arith
+
+pub four : (l : List ℕ) → length l ≡ 4 → l ≡ get_or l 0 0 ∷ get_or l 1 0 ∷ get_or l 2 0 ∷ get_or l 3 0 ∷ []
+four [] h = absurd (omega arith)
+four (a ∷ []) h = absurd (omega arith)
+four (a ∷ b ∷ []) h = absurd (omega arith)
+four (a ∷ b ∷ c ∷ []) h = absurd (omega arith)
+four (a ∷ b ∷ c ∷ d ∷ []) h = refl
+four (a ∷ b ∷ c ∷ d ∷ e ∷ l) h = absurd (omega arith)
+
+-- ---- numbers with sign
+twos_toZ : (v : ℕ) → v < 2 ^ 32 → twos v ≡ to_z w32 v
+unfolding twos
+twos_toZ v h = go (ltb v (2 ^ 31)) refl
+  where
+    over : pos v -ℤ pos (2 ^ 32) ≡ negsuc (2 ^ 32 - suc v)
+    over = omega (arith, ints)
+
+    go : (c : Bool) → ltb v (2 ^ 31) ≡ c → cond c (pos v) (pos v -ℤ pos (2 ^ 32)) ≡ to_z w32 v
+    go true e = rw e
+    go false e = rw e over
+
+-- four bytes as the code and as the definition read them
+pub signed_four : (l : List ℕ) (z : ℤ) → length l ≡ 4 → ((k : ℕ) → get_or l k 0 < 256) → z ≡ to_z w32 (get_or l 0 0 + get_or l 1 0 * 256 + get_or l 2 0 * 65536 + get_or l 3 0 * 16777216) →
+    twos (value l) ≡ z
+signed_four l z long below is =
+    let p = below 0 in
+    let q = below 1 in
+    let r = below 2 in
+    let s = below 3 in
+    ap twos (value_four l long) ∙ twos_toZ _ (omega arith) ∙ sym is

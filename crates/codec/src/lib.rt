@@ -3,8 +3,10 @@
 
 ghost use Rattle.codec.specs.Judged.{ReadBack, WrittenSo, OneList};
 
+mod bounds;
 pub mod bytes;
 pub mod commands;
+pub mod corners;
 pub mod judge;
 pub mod kind;
 pub mod numbers;
@@ -16,6 +18,7 @@ pub mod reader;
 pub mod refusal;
 pub mod summary;
 pub mod textures;
+pub mod views;
 pub mod walk;
 mod writable;
 pub mod writer;

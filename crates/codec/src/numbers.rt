@@ -1,9 +1,10 @@
 // Numbers from least to most, each judged when all its bytes are there.
 ghost use Rattle.std.specs.Prelude.{◌≤◌, IfOk};
-ghost use Rattle.codec.specs.Judged.{number};
+ghost use Rattle.codec.specs.Judged.{number, whole_number};
 ghost use Rattle.codec.specs.Reader.{Reads, as_it_is};
 ghost use Rattle.codec.specs.Refusals.{owner_number};
 
+use crate::bounds::is_within;
 use crate::owner::Owner;
 use crate::reader::Reader;
 use crate::refusal::Refusal;
@@ -33,6 +34,32 @@ impl Reader<'_> {
         let value = u16::from_le_bytes([bytes[0], bytes[1]]);
         if value < least || most < value {
             return Err(owner.refuse(at));
+        }
+        Ok(value)
+    }
+
+    // A scale, a number of four bytes.
+    pub fn scale(&mut self) -> Result<u32, Refusal>
+        ensures { Reads as_it_is (number 5 4 0 1048575) self.old result self.new }
+    {
+        let at = self.at;
+        let bytes = self.take(4)?;
+        let value = u32::from_le_bytes([bytes[0], bytes[1], bytes[2], bytes[3]]);
+        if value > 1_048_575 {
+            return Err(Refusal::Number(at));
+        }
+        Ok(value)
+    }
+
+    // A number with sign of four bytes, from -bound to bound - 1.
+    pub fn whole(&mut self, bound: u32) -> Result<i32, Refusal>
+        ensures { Reads as_it_is (whole_number bound) self.old result self.new }
+    {
+        let at = self.at;
+        let bytes = self.take(4)?;
+        let value = i32::from_le_bytes([bytes[0], bytes[1], bytes[2], bytes[3]]);
+        if !is_within(value, bound) {
+            return Err(Refusal::Number(at));
         }
         Ok(value)
     }
