@@ -1,6 +1,6 @@
 -- No number on the way passes 2^62.
 -- Assumes nothing.
-use Rattle.std.proofs.Common.{◌≡◌, ℕ, zero, suc, ◌+◌, ◌/◌, ◌^◌, ◌<◌, ◌≤◌, Bool, true, false, cond, List, [], ◌∷◌, length, get_or, ℤ, pos, ◌+ℤ◌, ◌-ℤ◌, ◌*ℤ◌, ◌<ℤ◌, Some, None, Option, refl, subst, suc-le-suc, le_trans, le_of_lt, mod-lt, mul-le-mul, sub-le, arith}
+use Rattle.std.proofs.Common.{◌≡◌, ℕ, zero, suc, ◌+◌, ◌/◌, ◌^◌, ◌<◌, ◌≤◌, Bool, true, false, cond, List, [], ◌∷◌, length, get_or, ℤ, pos, ◌+ℤ◌, ◌-ℤ◌, ◌*ℤ◌, ◌<ℤ◌, Some, None, Option, sym, ap, ◌∙◌, refl, subst, suc-le-suc, le_trans, le_of_lt, mod-lt, mul-le-mul, sub-le, arith}
 use native.Mathlib.Nat.{one-le-pow, pow-le-pow_right}
 use lib.Signed.{mag}
 use borrow.Author.Differences.{ints}
@@ -70,14 +70,21 @@ if_some : (b : Bool) (q p : Point) → cond b (Some q) None ≡ Some p → (b �
 if_some true q p e = (refl, cc)
 if_some false q p e = (cc, cc)
 
+-- a point lies where points may, whatever the corner
+pub place_fits : (w : View) (c : Corner) (p : Point) → point_of w c ≡ Some p → PlaceFits p.at
+unfolding point_of
+place_fits w c p e =
+    let s = if_some _ _ p e in
+    let in-it = and_parts _ _ (and_parts _ _ s.0).1 in
+    subst (λ (q : Point). PlaceFits q.at) s.1 (record { x = bounded _ in-it.0; y = bounded _ in-it.1 })
+
 point_fits : (w : View) (c : Corner) (p : Point) → CornerFits c → point_of w c ≡ Some p → PointFits p
 unfolding point_of depth_of
 point_fits w c p fc e =
     let s = if_some _ _ p e in
-    let in-it = and_parts _ _ (and_parts _ _ s.0).1 in
     subst PointFits s.1
     (record {
-      at = record { x = bounded _ in-it.0; y = bounded _ in-it.1 };
+      at = place_fits w c _ (e ∙ ap Some (sym s.1));
       depth = suc-le-suc (sub-le 65535 _);
       u = fc.u;
       v = fc.v;

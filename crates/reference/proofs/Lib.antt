@@ -7,3 +7,4 @@ pub mod Steps
 pub mod Entering
 pub mod Built
 pub mod EachDot
+pub mod Changes

@@ -5,3 +5,4 @@ pub mod Laws
 pub mod Made
 pub mod Admitted
 pub mod Dots
+pub mod Changes

@@ -1,0 +1,4 @@
+mod OneEdge
+mod Triangles
+mod Regions
+pub mod Standing

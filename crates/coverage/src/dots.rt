@@ -1,0 +1,67 @@
+// Dots of a picture that lies by rows in lent slices, read and written one at a time.
+ghost use Rattle.std.specs.Prelude.{◌≡◌, ◌+◌, ◌*◌, ◌<◌, ◌≤◌, length, slice_set};
+ghost use Rattle.meaning.specs.Meaning.{middle, if_covered};
+ghost use Rattle.meaning.specs.Textures.{image_if};
+ghost use Rattle.reference.specs.Boxes.{in_box};
+ghost use Rattle.reference.specs.Changes.{Changes};
+ghost use Rattle.reference.specs.Dots.{OneDot};
+ghost use Rattle.coverage.specs.Spots.{spot};
+
+use meaning::fragment::Fragment;
+use meaning::pen::Pen;
+use meaning::state::{Dot, Size};
+use meaning::texture::Texture;
+
+// Where dot (i, j) lies among the dots.
+fn place_of(size: Size, i: u16, j: u16) -> usize
+    ensures { result ≡ j * size.width + i }
+{
+    usize::from(j) * usize::from(size.width) + usize::from(i)
+}
+
+// The dot at a place.
+fn dot_at(colours: &[u8], depths: &[u16], place: usize) -> Dot
+    requires colours { place * 3 + 3 ≤ length colours.now }
+    requires depths { place < length depths.now }
+    ensures { result ≡ spot colours.now depths.now place }
+{
+    let first = place * 3;
+    Dot {
+        colour: [colours[first], colours[first + 1], colours[first + 2]],
+        depth: depths[place],
+    }
+}
+
+// The dot at a place becomes another.
+fn put_dot(colours: &mut [u8], depths: &mut [u16], place: usize, dot: Dot)
+    requires colours { place * 3 + 3 ≤ length colours.old }
+    requires depths { place < length depths.old }
+    ensures colours { OneDot place dot.colour colours.old colours.new }
+    ensures depths { depths.new ≡ slice_set depths.old place dot.depth }
+{
+    colours[place * 3..place * 3 + 3].copy_from_slice(&dot.colour);
+    depths[place] = dot.depth;
+}
+
+// Dot (i, j), which the fragment is of, is painted.
+pub(crate) fn paint_dot(
+    fragment: Fragment,
+    pen: Pen,
+    texture: Option<Texture<'_>>,
+    size: Size,
+    i: u16,
+    j: u16,
+    colours: &mut [u8],
+    depths: &mut [u16],
+)
+    requires place { fragment.place ≡ middle i j }
+    requires across { i < size.width }
+    requires down { j < size.height }
+    requires colours { (size.height * size.width) * 3 ≤ length colours.old }
+    requires depths { size.height * size.width ≤ length depths.old }
+    ensures { Changes size.width (in_box i j (i + 1) (j + 1)) (λ i j d. if_covered (image_if texture.entry) pen fragment.a fragment.b fragment.c (middle i j) d) colours.old depths.old colours.new depths.new }
+{
+    let place = place_of(size, i, j);
+    let dot = fragment.paint(texture, pen, dot_at(colours, depths, place));
+    put_dot(colours, depths, place, dot);
+}

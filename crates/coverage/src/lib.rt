@@ -1,0 +1,58 @@
+// A triangle painted over a box of dots: which dots it covers is told by sums alone.
+#![tactic(auto)]
+
+ghost use Rattle.std.specs.Prelude.{◌*◌, ◌≤◌, length};
+ghost use Rattle.meaning.specs.Meaning.{middle, in_frame, if_covered};
+ghost use Rattle.meaning.specs.Textures.{image_if};
+ghost use Rattle.setup.specs.Ready.{Sound};
+ghost use Rattle.reference.specs.Changes.{Changes};
+
+use crate::dots::paint_dot;
+use crate::edges::Edges;
+use crate::fragments::{fragment_at, twice_area};
+use crate::sides::Sides;
+use meaning::pen::{Frame, Pen};
+use meaning::state::Size;
+use meaning::texture::Texture;
+use setup::triangle::Triangle;
+
+mod dots;
+mod edges;
+mod fragments;
+mod sides;
+
+// The dots of the frame that the triangle covers are painted, and no others.
+pub fn cover(
+    triangle: Triangle,
+    frame: Frame,
+    pen: Pen,
+    texture: Option<Texture<'_>>,
+    size: Size,
+    colours: &mut [u8],
+    depths: &mut [u16],
+)
+    requires sound { Sound triangle }
+    requires right { frame.right ≤ size.width }
+    requires bottom { frame.bottom ≤ size.height }
+    requires colours { (size.height * size.width) * 3 ≤ length colours.old }
+    requires depths { size.height * size.width ≤ length depths.old }
+    ensures { Changes size.width (in_frame frame) (λ i j d. if_covered (image_if texture.entry) pen triangle.a triangle.b triangle.c (middle i j) d) colours.old depths.old colours.new depths.new }
+{
+    let edges = Edges::of(triangle);
+    let area = twice_area(triangle);
+    let mut first = Sides::at(triangle, frame.left, frame.top);
+    'rows: for j in frame.top..frame.bottom {
+        let mut sides = first;
+        // moved on already here, since the row may be left before its end
+        first = first.below(edges);
+        for i in frame.left..frame.right {
+            if sides.are_inside(edges) {
+                let fragment = fragment_at(triangle, area, sides, i, j);
+                paint_dot(fragment, pen, texture, size, i, j, colours, depths);
+            } else if sides.are_past(edges) {
+                continue 'rows;
+            }
+            sides = sides.beside(edges);
+        }
+    }
+}

@@ -1,0 +1,19 @@
+use Rattle.std.proofs.Common.{◌+◌, ◌*◌, pos}
+use Rattle.meaning.specs.Meaning.{middle}
+use Rattle.setup.specs.Boxes.{from_to, between}
+use Rattle.setup.proofs.Spans.{spanned, crossed}
+use Rattle.setup.proofs.bounds.bounds.Goals as goal
+
+pub returns : goal.returns
+unfolding middle
+returns c i j =
+    let a = c.args.a in
+    let b = c.args.b in
+    let d = c.args.c in
+    let f = c.args.frame in
+    let p = c.requires in
+    let x = pos (256 * i + 128) in
+    let y = pos (256 * j + 128) in
+    crossed _ _ (from_to f.left f.right i) (between a.x b.x d.x x) (from_to f.top f.bottom j) (between a.y b.y d.y y)
+    (spanned _ _ a.x b.x d.x x p.a.x p.b.x p.c.x (c.span-left.ensures i))
+    (spanned _ _ a.y b.y d.y y p.a.y p.b.y p.c.y (c.span-top.ensures j))

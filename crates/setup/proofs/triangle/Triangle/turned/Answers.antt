@@ -1,0 +1,38 @@
+use Rattle.std.proofs.Common.{◌≡◌, true, false, ℤ, pos, ◌<ℤ◌, sym, ap, ◌∙◌, arith, SFits, to_z, of_z, rules}
+use lib.Signed.{lt_z}
+use mir.Syntax.{w128}
+use Rattle.std.proofs.lemmas.Int.{ints, to_z-of_z}
+use Rattle.meaning.specs.Meaning.{turns}
+use Rattle.setup.proofs.Standing.{on_clock, on_against, on_flat}
+use Rattle.setup.proofs.triangle.Triangle.turned.Goals as goal
+
+-- the sign of the area, from tests of its bits
+module _ (z t : ℤ) (f : SFits w128 z) (e : z ≡ t) where
+  none : of_z w128 z ≡ 0 → t ≡ pos 0
+  none h = sym (to_z-of_z w128 z f ∙ e) ∙ ap (to_z w128) h
+
+  below : lt_z (to_z w128 (of_z w128 z)) (pos 0) ≡ true → t <ℤ pos 0
+  below h = let k : lt_z t (pos 0) ≡ true = ap (λ (i : ℤ). lt_z i (pos 0)) (sym (to_z-of_z w128 z f ∙ e)) ∙ h in omega (arith, ints)
+
+  above : (of_z w128 z ≡ 0 → ⊥) → lt_z (to_z w128 (of_z w128 z)) (pos 0) ≡ false → pos 0 <ℤ t
+  above g h = last t (λ k. g (ap (of_z w128) (e ∙ k))) (ap (λ (i : ℤ). lt_z i (pos 0)) (sym (to_z-of_z w128 z f ∙ e)) ∙ h)
+    where
+      last : (t : ℤ) → (t ≡ pos 0 → ⊥) → lt_z t (pos 0) ≡ false → pos 0 <ℤ t
+      last t g h = grind (arith, ints)
+
+pub returns-then-area-eq0 : goal.returns-then-area-eq0
+returns-then-area-eq0 c =
+    let a = c.args in
+    on_flat a.pen a.a a.b a.c c.none.result (none c.turn-area.result (turns a.a a.b a.c) (search rules) c.turn-area.ensures.value c.if-area-eq0.true) c.none.ensures
+
+pub returns-then-area-lt0 : goal.returns-then-area-lt0
+returns-then-area-lt0 c =
+    let a = c.args in
+    on_against a.pen a.a a.b a.c c.boxed.result c.requires.a c.requires.b c.requires.c
+    (below c.turn-area.result (turns a.a a.b a.c) (search rules) c.turn-area.ensures.value c.if-area-lt0.true) c.boxed.ensures
+
+pub returns-else-area-lt0 : goal.returns-else-area-lt0
+returns-else-area-lt0 c =
+    let a = c.args in
+    on_clock a.pen a.a a.b a.c c.boxed-else-area-lt0.result c.requires.a c.requires.b c.requires.c
+    (above c.turn-area.result (turns a.a a.b a.c) (search rules) c.turn-area.ensures.value c.if-area-eq0.false c.if-area-lt0.false) c.boxed-else-area-lt0.ensures
