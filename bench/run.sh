@@ -11,11 +11,12 @@ mkdir -p "$built"
 for name in plain scene; do
     rustc --edition 2024 -C opt-level=3 -C codegen-units=1 -o "$built/$name" "$root/bench/$name.rs"
 done
-if ! (cd "$root" && rt check bench) >"$built/check.log" 2>&1; then
+# Proves and builds the program; with no file named it only prints its help.
+if ! (cd "$root/crates/bench" && rt run) >"$built/check.log" 2>&1; then
     echo "bench is not proved; see $built/check.log" >&2
     exit 1
 fi
-bench=$root/target/bin/bench
+bench=$root/crates/bench/out/bench
 
 files=()
 for scene in "200 256 256" "2000 1024 1024" "20000 1024 1024" "100000 1024 1024"; do
