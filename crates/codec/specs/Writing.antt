@@ -79,8 +79,8 @@ first_not ok k (x ∷ rest) = cond (ok x) (first_not ok (suc k) rest) (Some k)
 
 -- refused at the place that was found, or for what comes after
 abbrev pub refused_at : (ℕ → WriteError) → Option ℕ → Option WriteError → Option WriteError
-refused_at as-error None after = after
-refused_at as-error (Some k) after = Some (as-error k)
+refused_at as_error None after = after
+refused_at as_error (Some k) after = Some (as_error k)
 
 -- the first reason in the order of the file, nothing where all is in bounds; the textures' dots lie in n bytes
 unfoldable pub refusal : Size → List TexturePart → ℕ → List Command → Option WriteError
