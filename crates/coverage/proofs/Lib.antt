@@ -1,4 +1,3 @@
 mod OneEdge
 mod Triangles
 mod Regions
-pub mod Standing

@@ -1,4 +1,4 @@
--- Dots of a region that each became a function of themselves: nothing, one after another, in two parts, in a smaller region.
+-- Dots of a region that each became a function of themselves: nothing, in two parts, in a smaller region.
 -- Assumes nothing.
 use Rattle.std.proofs.Common.{◌≡◌, ℕ, zero, suc, ◌+◌, ◌*◌, ◌<◌, Bool, true, false, cond, ◌||◌, List, [], ◌∷◌, length, get_or, sym, refl, ap, ◌∙◌, arith}
 use Rattle.std.proofs.lemmas.Bool.{true≢false}
@@ -14,7 +14,7 @@ three_list (a ∷ b ∷ c ∷ []) h = refl
 three_list (a ∷ b ∷ c ∷ d ∷ l) h = absurd (omega arith)
 
 -- a dot is known by its parts
-pub dot_is : (w : ℕ) (C D : List ℕ) (i j : ℕ) (d : Dot) → Three d → ((c : ℕ) → c < 3 → get_or C ((j * w + i) * 3 + c) 0 ≡ get_or d.colour c 0) →
+dot_is : (w : ℕ) (C D : List ℕ) (i j : ℕ) (d : Dot) → Three d → ((c : ℕ) → c < 3 → get_or C ((j * w + i) * 3 + c) 0 ≡ get_or d.colour c 0) →
     get_or D (j * w + i) 0 ≡ d.depth → dot_of w C D i j ≡ d
 dot_is w C D i j d long parts deep =
     let k : get_or C ((j * w + i) * 3 + 0) 0 ∷ get_or C ((j * w + i) * 3 + 1) 0 ∷ get_or C ((j * w + i) * 3 + 2) 0 ∷ [] ≡ d.colour =
@@ -60,27 +60,6 @@ module _ (w : ℕ) (f : ℕ → ℕ → Dot → Dot) where
   changes_none R C D same =
       changes_wider (λ i j. false) R C D C D (λ i j e. absurd (true≢false (sym e))) (λ i j e _. same i j e) (record { colours = λ i j c iw c3. refl; depths = λ i j iw. refl })
 
-  -- the same region said otherwise
-  pub changes_same : (A R : ℕ → ℕ → Bool) (C D C' D' : List ℕ) → ((i j : ℕ) → R i j ≡ A i j) → Changes w A f C D C' D' → Changes w R f C D C' D'
-  changes_same A R C D C' D' e x = record { colours = λ i j c iw c3. rw (e i j) (x.colours i j c iw c3); depths = λ i j iw. rw (e i j) (x.depths i j iw) }
-
-  -- the same done to the dots of the region, said otherwise
-  pub changes_by : (R : ℕ → ℕ → Bool) (g : ℕ → ℕ → Dot → Dot) (C D C' D' : List ℕ) → ((i j : ℕ) (d : Dot) → R i j ≡ true → g i j d ≡ f i j d) → Changes w R f C D C' D' → Changes w R g C D C' D'
-  changes_by R g C D C' D' same x =
-      record {
-        colours = λ i j c iw c3. x.colours i j c iw c3 ∙ colour i j c (R i j) refl;
-        depths = λ i j iw. x.depths i j iw ∙ depth i j (R i j) refl;
-      }
-    where
-      colour : (i j c : ℕ) (b : Bool) → R i j ≡ b →
-          cond b (get_or (f i j (dot_of w C D i j)).colour c 0) (get_or C ((j * w + i) * 3 + c) 0) ≡ cond b (get_or (g i j (dot_of w C D i j)).colour c 0) (get_or C ((j * w + i) * 3 + c) 0)
-      colour i j c true e = sym (ap (λ (d : Dot). get_or d.colour c 0) (same i j (dot_of w C D i j) e))
-      colour i j c false e = refl
-
-      depth : (i j : ℕ) (b : Bool) → R i j ≡ b → cond b (f i j (dot_of w C D i j)).depth (get_or D (j * w + i) 0) ≡ cond b (g i j (dot_of w C D i j)).depth (get_or D (j * w + i) 0)
-      depth i j true e = sym (ap (λ (d : Dot). d.depth) (same i j (dot_of w C D i j) e))
-      depth i j false e = refl
-
   -- two regions that have no dot in common
   pub changes_more : (A B R : ℕ → ℕ → Bool) (C D C' D' C'' D'' : List ℕ) → ((i j : ℕ) → R i j ≡ (A i j || B i j)) → ((i j : ℕ) → B i j ≡ true → A i j ≡ false) →
       Changes w A f C D C' D' → Changes w B f C' D' C'' D'' → Changes w R f C D C'' D''
@@ -107,26 +86,3 @@ module _ (w : ℕ) (f : ℕ → ℕ → Dot → Dot) where
       depth i j iw true false e g = x.depths i j iw ∙ rw e
       depth i j iw false true e g = ap (λ (d : Dot). (f i j d).depth) (as_was i j iw e)
       depth i j iw false false e g = x.depths i j iw ∙ rw e
-
-  -- one after another, where f keeps three parts of colour
-  pub changes_then : (R : ℕ → ℕ → Bool) (C D C' D' : List ℕ) → ((i j : ℕ) (d : Dot) → Three d → Three (f i j d)) → Changes w R f C D C' D' →
-      (g : ℕ → ℕ → Dot → Dot) (C'' D'' : List ℕ) → Changes w R g C' D' C'' D'' → Changes w R (λ i j d. g i j (f i j d)) C D C'' D''
-  changes_then R C D C' D' keeps x g C'' D'' y =
-      record {
-        colours = λ i j c iw c3. y.colours i j c iw c3 ∙ colour i j c iw c3 (R i j) refl;
-        depths = λ i j iw. y.depths i j iw ∙ depth i j iw (R i j) refl;
-      }
-    where
-      dot_then : (i j : ℕ) → i < w → R i j ≡ true → dot_of w C' D' i j ≡ f i j (dot_of w C D i j)
-      dot_then i j iw e =
-          dot_is w C' D' i j (f i j (dot_of w C D i j)) (keeps i j (dot_of w C D i j) refl) (λ c c3. x.colours i j c iw c3 ∙ rw e) (x.depths i j iw ∙ rw e)
-
-      colour : (i j c : ℕ) → i < w → c < 3 → (b : Bool) → R i j ≡ b →
-          cond b (get_or (g i j (dot_of w C' D' i j)).colour c 0) (get_or C' ((j * w + i) * 3 + c) 0) ≡ cond b (get_or (g i j (f i j (dot_of w C D i j))).colour c 0) (get_or C ((j * w + i) * 3 + c) 0)
-      colour i j c iw c3 true e = ap (λ (d : Dot). get_or (g i j d).colour c 0) (dot_then i j iw e)
-      colour i j c iw c3 false e = x.colours i j c iw c3 ∙ rw e
-
-      depth : (i j : ℕ) → i < w → (b : Bool) → R i j ≡ b →
-          cond b (g i j (dot_of w C' D' i j)).depth (get_or D' (j * w + i) 0) ≡ cond b (g i j (f i j (dot_of w C D i j))).depth (get_or D (j * w + i) 0)
-      depth i j iw true e = ap (λ (d : Dot). (g i j d).depth) (dot_then i j iw e)
-      depth i j iw false e = x.depths i j iw ∙ rw e

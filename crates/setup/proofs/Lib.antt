@@ -1,4 +1,4 @@
 mod Spans
 mod Covering
 mod Standing
-pub mod Sixteen
+mod Sixteen

@@ -6,7 +6,7 @@ use Rattle.std.proofs.lemmas.List.{places}
 use Rattle.setup.specs.declared.triangle.Triangle.{Triangle}
 use Rattle.setup.specs.Ready.{Placed}
 use Rattle.setup.proofs.Spans.{same_small}
-use Rattle.setup.specs.Words.{coordinate_in, low, high, colour_in, triangle_in, triangle_of}
+use Rattle.setup.specs.Words.{coordinate_in, low, high, colour_in, triangle_in}
 
 -- the triangle of words that are equal is the same
 pub same_sixteen : (f g : ℕ → ℕ) → ((n : ℕ) → n < 16 → f n ≡ g n) → triangle_in f ≡ triangle_in g
@@ -29,10 +29,6 @@ same_sixteen f g h =
     let w14 = h 14 (omega arith) in
     let w15 = h 15 (omega arith) in
     cc
-
--- so a triangle in the work depends on its own sixteen words alone
-pub same_words : (W V : List ℕ) (at to : ℕ) → ((n : ℕ) → n < 16 → get_or V (to + n) 0 ≡ get_or W (at + n) 0) → triangle_of V to ≡ triangle_of W at
-same_words W V at to h = same_sixteen (λ n. get_or V (to + n) 0) (λ n. get_or W (at + n) 0) h
 
 -- words in which the parts of a triangle are found again
 pub packed : (t : Triangle) → Placed t → (w0 w1 w2 w3 w4 w5 w6 w7 w8 w9 w10 w11 w12 w13 w14 w15 : ℕ) →
