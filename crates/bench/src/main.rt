@@ -1,4 +1,6 @@
 // Times the maker: the best of several calls on one file, and how much of a call is judging.
+#![tactic(auto)]
+
 use anyhow::anyhow;
 use console::memory::Memory;
 use reference::job::measure;

@@ -2,7 +2,7 @@
 -- Assumes nothing.
 use Rattle.std.proofs.Common.{◌≡◌, ℕ, suc, ◌-◌, ◌<◌, ◌≤◌, true, eqb, leb, List, [], ◌∷◌, ◌++◌, map, length, get_or, take, drop, ℤ, pos, negsuc, Some, None, Option, refl, ap, arith}
 use borrow.Author.Differences.{ints}
-use Rattle.std.specs.List.{AllByRecursion as All}
+use Rattle.std.specs.List.{AllByRecursion}
 use Rattle.std.proofs.ByRecursion.{All-from_get_or, All-take, All-drop, All-map, All-weaker}
 use Rattle.std.proofs.lemmas.List.{length-drop, length-map, length-take, length-take-le}
 use Rattle.std.proofs.lemmas.Bool.{leb-true, eqb-true, ltb-true, and_parts}
@@ -104,7 +104,7 @@ corner_fits c u v four bytes h =
       bytes = All-from_get_or (λ b. b < 256) c.colour 0 (λ i _. bytes i);
     }
 
-instruction_fits : (s : Size) (ts : List Image) (n : ℕ) → length ts ≡ n → (c : Command) (zs : List (List Corner)) → command_ok s n c ≡ true → Typed c → All (λ t. TripleFits (triple t)) zs →
+instruction_fits : (s : Size) (ts : List Image) (n : ℕ) → length ts ≡ n → (c : Command) (zs : List (List Corner)) → command_ok s n c ≡ true → Typed c → AllByRecursion (λ t. TripleFits (triple t)) zs →
     InstructionFits s ts (instruction_of c zs)
 instruction_fits s ts n e (kind.Pen p) zs h t all =
     record {
@@ -118,8 +118,8 @@ instruction_fits s ts n e (kind.Triangles k) zs h t all =
     (few, All-map _ triple (take k zs) (All-take _ k zs all))
 instruction_fits s ts n e kind.Show zs h t all = tt
 
-instructions_fit : (s : Size) (ts : List Image) (n : ℕ) → length ts ≡ n → (cs : List Command) (zs : List (List Corner)) → All (λ c. command_ok s n c ≡ true) cs → All Typed cs →
-    All (λ t. TripleFits (triple t)) zs → All (InstructionFits s ts) (instructions cs zs)
+instructions_fit : (s : Size) (ts : List Image) (n : ℕ) → length ts ≡ n → (cs : List Command) (zs : List (List Corner)) → AllByRecursion (λ c. command_ok s n c ≡ true) cs → AllByRecursion Typed cs →
+    AllByRecursion (λ t. TripleFits (triple t)) zs → AllByRecursion (InstructionFits s ts) (instructions cs zs)
 unfolding instructions
 instructions_fit s ts n e [] zs h t all = tt
 instructions_fit s ts n e (c ∷ cs) zs h t all =
@@ -130,8 +130,8 @@ unfolding instructions
 length_instructions [] zs = refl
 length_instructions (c ∷ cs) zs = ap suc (length_instructions cs (drop (triangles_in c) zs))
 
-pub list_fits : (s : Size) (ps : List TexturePart) (dots : List ℕ) (cs : List Command) (zs : List (List Corner)) → ((k : ℕ) → get_or dots k 0 < 256) → All Typed cs →
-    All (λ t. TripleFits (triple t)) zs → refusal s ps (length dots) cs zs ≡ None → ListFits s (part_images dots ps) (instructions cs zs)
+pub list_fits : (s : Size) (ps : List TexturePart) (dots : List ℕ) (cs : List Command) (zs : List (List Corner)) → ((k : ℕ) → get_or dots k 0 < 256) → AllByRecursion Typed cs →
+    AllByRecursion (λ t. TripleFits (triple t)) zs → refusal s ps (length dots) cs zs ≡ None → ListFits s (part_images dots ps) (instructions cs zs)
 list_fits s ps dots cs zs bytes typed corners h =
     let f = fine s ps (length dots) cs zs h in
     let size : size_ok s ≡ true = f.size in

@@ -2,7 +2,7 @@
 -- Assumes nothing.
 use Rattle.std.proofs.Common.{◌≡◌, ℕ, zero, suc, ◌+◌, ◌<◌, ◌≤◌, Bool, true, false, cond, List, [], ◌∷◌, length, get_or, drop, Some, None, Option, sym, refl, ◌∙◌, add-one, arith}
 use Rattle.std.proofs.lemmas.List.{at_drop_more, at_drop_all}
-use Rattle.std.specs.List.{AllByRecursion as All}
+use Rattle.std.specs.List.{AllByRecursion}
 use Rattle.codec.specs.Writing.{first_not}
 
 -- none behind one that passes
@@ -40,7 +40,7 @@ pub pass_next : {A : Type 0} (ok : A → Bool) (k : ℕ) (xs : List A) → first
 pass_next ok k xs h = rw add-one (next ok k k xs h)
 
 -- and all pass
-pub all_pass : {A : Type 0} (ok : A → Bool) (k : ℕ) (xs : List A) → first_not ok k xs ≡ None → All (λ x. ok x ≡ true) xs
+pub all_pass : {A : Type 0} (ok : A → Bool) (k : ℕ) (xs : List A) → first_not ok k xs ≡ None → AllByRecursion (λ x. ok x ≡ true) xs
 unfolding first_not
 all_pass ok k [] h = tt
 all_pass ok k (x ∷ xs) h = let p = none_if (ok x) (first_not ok (suc k) xs) k h in (p.0, all_pass ok (suc k) xs p.1)

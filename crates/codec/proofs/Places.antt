@@ -1,8 +1,8 @@
 -- Readers of the definition at a place of the file.
 -- Assumes nothing.
-use Rattle.std.proofs.Common.{◌≡◌, ℕ, ◌+◌, ◌-◌, ◌<◌, ◌≤◌, true, false, ltb, List, [], ◌∷◌, length, get_or, take, drop, refl, ap, arith, le-ltb, lt-ltb}
+use Rattle.std.proofs.Common.{◌≡◌, ℕ, ◌+◌, ◌-◌, ◌<◌, ◌≤◌, true, false, ltb, List, length, take, drop, ap, arith, le-ltb, lt-ltb}
 use Rattle.std.proofs.lemmas.List.{length-drop, drop-drop, drop_more, drop_all}
-use Rattle.codec.specs.Judged.{Got, stop, got, place, bytes, end}
+use Rattle.codec.specs.Judged.{stop, got, place, bytes, end}
 
 module _ (b : List ℕ) (at : ℕ) (inside : at ≤ length b) where
   pub place_is : place (length b) (drop at b) ≡ at

@@ -1,7 +1,7 @@
 -- Readers and what is written for them: what is written is read back, and what is read was written so.
 -- Assumes nothing.
 use Rattle.std.proofs.Common.{◌≡◌, ℕ, zero, suc, false, ltb, List, [], ◌∷◌, ◌++◌, length, sym, refl, ap, append_assoc, arith}
-use Rattle.std.specs.List.{AllByRecursion as All}
+use Rattle.std.specs.List.{AllByRecursion}
 use Rattle.std.proofs.lemmas.Bool.{ltb-false, le-ltb, cond_both}
 use Rattle.std.proofs.ByRecursion.{All-take}
 use Rattle.std.proofs.lemmas.List.{take-append-drop, length-take-le, take_at, drop_at, length-append}
@@ -74,17 +74,17 @@ bytes_codec n = record {
 }
 
 -- n parts, one after another
-pub times_codec : {A : Type 0} {r : Reader A} {w : A → List ℕ} {Ok : A → Type 0} (n : ℕ) → Codec r w Ok → Codec (times n r) (all w) (λ l. (length l ≡ n) × All Ok l)
+pub times_codec : {A : Type 0} {r : Reader A} {w : A → List ℕ} {Ok : A → Type 0} (n : ℕ) → Codec r w Ok → Codec (times n r) (all w) (λ l. (length l ≡ n) × AllByRecursion Ok l)
 unfolding times all
 times_codec {A = A} {r = r} {w = w} {Ok = Ok} n c = record { reads = λ l. reads n _ l _; sound = sound n }
   where
-    reads : (n t : ℕ) (l : List A) (rest : List ℕ) → (length l ≡ n) × All Ok l → times n r t (all w l ++ rest) ≡ got l rest
+    reads : (n t : ℕ) (l : List A) (rest : List ℕ) → (length l ≡ n) × AllByRecursion Ok l → times n r t (all w l ++ rest) ≡ got l rest
     reads zero t [] rest h = refl
     reads zero t (a ∷ l) rest h = absurd (omega arith)
     reads (suc n) t [] rest h = absurd (omega arith)
     reads (suc n) t (a ∷ l) rest h = rw (append_assoc, c.reads a h.1.0, reads n t l rest (omega arith, h.1.1))
 
-    sound : (n : ℕ) → Sound (times n r) (Read (all w) (λ l. (length l ≡ n) × All Ok l))
+    sound : (n : ℕ) → Sound (times n r) (Read (all w) (λ l. (length l ≡ n) × AllByRecursion Ok l))
     sound zero = done (λ l. record { fits = (refl, tt); spelt = refl })
     sound (suc n) =
         after c (λ a h. after (record { reads = λ l. reads n _ l _; sound = sound n }) (λ as' g. done (λ rest.

@@ -2,7 +2,7 @@
 -- Assumes nothing.
 use Rattle.std.proofs.Common.{◌≡◌, ℕ, suc, ◌+◌, ◌-◌, ◌*◌, ◌^◌, ◌<◌, ◌≤◌, List, [], ◌∷◌, ◌++◌, length, get_or, drop, ℤ, pos, sym, refl, ap, ◌∙◌, subst, arith}
 use lib.Signed.{lt_z, mag}
-use Rattle.std.specs.List.{AllByRecursion as All}
+use Rattle.std.specs.List.{AllByRecursion}
 use Rattle.std.proofs.ByRecursion.{All-drop, All-from_get_or}
 use Rattle.std.proofs.lemmas.List.{length-append, length-drop, drop_at, drop-drop}
 use Rattle.std.proofs.lemmas.Bool.{cond_both}
@@ -24,7 +24,7 @@ unfolding corner_bytes
 corner_long c f =
     simp length-append (omega (arith, length_signed 4 c.x, length_signed 4 c.y, length_signed 4 c.z, length_le 2 c.u, length_le 2 c.v, f.four))
 
-triples_long : (l : List Triple) → All TripleFits l → length (all triple_bytes l) ≡ 60 * length l
+triples_long : (l : List Triple) → AllByRecursion TripleFits l → length (all triple_bytes l) ≡ 60 * length l
 unfolding all triple_bytes
 triples_long [] f = refl
 triples_long (t ∷ l) f =
@@ -33,8 +33,8 @@ triples_long (t ∷ l) f =
 -- what is behind n triangles
 behind_triples : (n t : ℕ) (l : List ℕ) (zs : List Triple) (rest : List ℕ) → Bytes l → times n a_triple t l ≡ got zs rest → (rest ≡ drop (60 * n) l) × (60 * n ≤ length l)
 behind_triples n t l zs rest below e =
-    let r : Read (all triple_bytes) (λ k. (length k ≡ n) × All TripleFits k) l zs rest =
-    subst (λ (m : Got (List Triple)). Holds (Read (all triple_bytes) (λ k. (length k ≡ n) × All TripleFits k) l) m) e ((times_codec n triple_codec).sound.at t l below) in
+    let r : Read (all triple_bytes) (λ k. (length k ≡ n) × AllByRecursion TripleFits k) l zs rest =
+    subst (λ (m : Got (List Triple)). Holds (Read (all triple_bytes) (λ k. (length k ≡ n) × AllByRecursion TripleFits k) l) m) e ((times_codec n triple_codec).sound.at t l below) in
     let long : length (all triple_bytes zs) ≡ 60 * n = triples_long zs r.fits.1 ∙ ap (λ (k : ℕ). 60 * k) r.fits.0 in (
       sym (ap (λ (k : List ℕ). drop (60 * n) k) r.spelt ∙ drop_at (all triple_bytes zs) rest (60 * n) long),
       omega (arith, ap length r.spelt, length-append (all triple_bytes zs) rest),

@@ -1,4 +1,6 @@
 // The file: a list of drawing commands as bytes.
+#![tactic(auto)]
+
 ghost use Rattle.codec.specs.Judged.{ReadBack, WrittenSo, OneList};
 
 mod bounds;

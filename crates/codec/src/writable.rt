@@ -1,6 +1,6 @@
 // Whether a list of commands is in bounds, so that it can be written as a file.
 ghost use Rattle.std.specs.Prelude.{◌≡◌, ◌≤◌, length, None};
-ghost use Rattle.std.specs.List.{AllByRecursion as All};
+ghost use Rattle.std.specs.List.{AllByRecursion};
 ghost use Rattle.meaning.specs.Fits.{TripleFits};
 ghost use Rattle.meaning.specs.Fragments.{triple};
 ghost use Rattle.codec.specs.Writing.{size_ok, part_ok, frame_ok, command_ok, triangle_ok, triangle_total, Typed, first_not, triangles_refusal, refusal};
@@ -56,7 +56,7 @@ fn bad_texture(textures: &[TexturePart], bytes: usize) -> Option<usize>
 // The first command that cannot be written.
 fn bad_command(commands: &[Command], size: Size, textures: usize) -> Option<usize>
     ensures value { result ≡ first_not (command_ok size textures) 0 commands.now }
-    ensures typed { result ≡ None → All Typed commands.now }
+    ensures typed { result ≡ None → AllByRecursion Typed commands.now }
 {
     for (k, command) in commands.iter().enumerate() {
         if !is_command(*command, size, textures) {
@@ -69,7 +69,7 @@ fn bad_command(commands: &[Command], size: Size, textures: usize) -> Option<usiz
 // The first triangle that is out of bounds.
 fn bad_triangle(triangles: &[[Corner; 3]]) -> Option<usize>
     ensures value { result ≡ first_not triangle_ok 0 triangles.now }
-    ensures fits { result ≡ None → All (λ t. TripleFits (triple t)) triangles.now }
+    ensures fits { result ≡ None → AllByRecursion (λ t. TripleFits (triple t)) triangles.now }
 {
     for (k, triangle) in triangles.iter().enumerate() {
         if !is_triangle(*triangle) {
@@ -96,7 +96,7 @@ fn count_triangles(commands: &[Command]) -> usize
 fn judge_triangles(commands: &[Command], triangles: &[[Corner; 3]]) -> Option<WriteError>
     requires { length commands.now ≤ 65535 }
     ensures value { result ≡ triangles_refusal commands.now triangles.now }
-    ensures fits { result ≡ None → All (λ t. TripleFits (triple t)) triangles.now }
+    ensures fits { result ≡ None → AllByRecursion (λ t. TripleFits (triple t)) triangles.now }
 {
     if count_triangles(commands) != triangles.len() {
         return Some(WriteError::Triangles);
@@ -116,8 +116,8 @@ pub(crate) fn judge(
     triangles: &[[Corner; 3]],
 ) -> Option<WriteError>
     ensures value { result ≡ refusal size textures.now bytes commands.now triangles.now }
-    ensures typed { result ≡ None → All Typed commands.now }
-    ensures fits { result ≡ None → All (λ t. TripleFits (triple t)) triangles.now }
+    ensures typed { result ≡ None → AllByRecursion Typed commands.now }
+    ensures fits { result ≡ None → AllByRecursion (λ t. TripleFits (triple t)) triangles.now }
 {
     if !is_size(size) {
         return Some(WriteError::Size);

@@ -1,4 +1,6 @@
 // Makes random files with a fixed seed, has their pictures made tile by tile and dot by dot, and compares every lent slice.
+#![tactic(auto)]
+
 use crate::random::Random;
 use anyhow::anyhow;
 use codec::part::TexturePart;

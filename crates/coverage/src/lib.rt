@@ -1,4 +1,6 @@
 // A triangle painted over a box of dots: which dots it covers is told by sums alone.
+#![tactic(auto)]
+
 ghost use Rattle.std.specs.Prelude.{◌*◌, ◌≤◌, length};
 ghost use Rattle.meaning.specs.Meaning.{middle, in_frame, if_covered};
 ghost use Rattle.meaning.specs.Textures.{image_if};

@@ -1,4 +1,6 @@
 // Prints the six example pictures, each dot computed by the functions of the meaning.
+#![tactic(auto)]
+
 use crate::table::{Example, Step, all};
 use meaning::state::{Dot, State};
 

@@ -2,9 +2,9 @@
 -- over numbered variables, their difference is multiplied out into a list of terms (a coefficient and a sorted list of variables), and the check that each
 -- coefficient is 0 computes.
 -- Assumes nothing.
-use Rattle.std.proofs.Common.{◌≡◌, ℕ, zero, suc, ◌+◌, ◌*◌, Bool, true, false, ◌&&◌, T, eqb, leb, List, [], ◌∷◌, get_or, ℤ, pos, negsuc, ◌+ℤ◌, ◌-ℤ◌, ◌*ℤ◌, neg_ℤ, sym, refl, ap, ◌∙◌, subst, arith, eqb→eq}
-use lib.IntN.{+ℤ_assoc, +ℤ_comm, +ℤ_idl, +ℤ_idr, *ℤ_comm, zero-*ℤ, *ℤ-zero, +ℤ_invr}
-use borrow.Author.Differences.{ints, up, down, product_is, sum_is_lem, neg_is, same_in}
+use Rattle.std.proofs.Common.{◌≡◌, ℕ, zero, suc, ◌*◌, Bool, true, false, T, eqb, leb, List, [], ◌∷◌, ℤ, pos, negsuc, ◌+ℤ◌, ◌-ℤ◌, ◌*ℤ◌, neg_ℤ, sym, refl, ap, ◌∙◌, arith, eqb→eq}
+use lib.IntN.{+ℤ_assoc, +ℤ_idl, *ℤ_comm, zero-*ℤ, *ℤ-zero}
+use borrow.Author.Differences.{ints, up, down, product_is, sum_is_lem, same_in}
 
 -- ---- laws of the product
 pub *ℤ_distr : (a b c : ℤ) → a *ℤ (b +ℤ c) ≡ (a *ℤ b) +ℤ (a *ℤ c)

@@ -1,4 +1,6 @@
 // Whole numbers with sign: products, sums and differences at twice the width, so that none can overflow, and quotients rounded down.
+#![tactic(auto)]
+
 ghost use Rattle.std.specs.Prelude.{◌≡◌, ℕ, ◌+◌, ◌*◌, ◌<◌, ◌≤◌, ℤ, pos, ◌+ℤ◌, ◌-ℤ◌, ◌*ℤ◌, MatchOption};
 ghost use Rattle.std.specs.Int.Signed.{mag};
 ghost use Rattle.fixed_point.specs.Whole.{down, RoundsDown};

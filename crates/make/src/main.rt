@@ -1,4 +1,6 @@
 // The pictures of a file, made tile by tile.
+#![tactic(auto)]
+
 use anyhow::anyhow;
 use codec::refusal::Refusal;
 use console::painter::Painter;

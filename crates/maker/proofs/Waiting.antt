@@ -10,7 +10,7 @@ use Rattle.setup.specs.declared.triangle.Triangle.{Triangle}
 use Rattle.setup.specs.Words.{triangle_of}
 use Rattle.setup.specs.Tasks.{Task, task, tasks, no_task, Does, Stored}
 use Rattle.setup.proofs.Tasks.{tasks_triangles, task_after}
-use Rattle.maker.specs.declared.tile.Context.{Context}
+use Rattle.maker.specs.declared.tiles.Context.{Context}
 use Rattle.maker.specs.Tiles.{Waiting}
 
 -- a command without triangles: p and w are the pen and the view behind it

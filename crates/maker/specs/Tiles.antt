@@ -13,7 +13,7 @@ use Rattle.codec.specs.Walk.{pictured, listed}
 use Rattle.setup.specs.Tasks.{tasks, Stored}
 use Rattle.reference.specs.Shows.{Through}
 use Rattle.reference.specs.Dots.{Done}
-use Rattle.maker.specs.declared.tile.Context.{Context}
+use Rattle.maker.specs.declared.tiles.Context.{Context}
 
 -- the frame of the whole picture
 abbrev pub whole : Size → Frame

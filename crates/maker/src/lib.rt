@@ -1,4 +1,6 @@
 // The pictures of a file, tile by tile.
+#![tactic(auto)]
+
 ghost use Rattle.std.specs.Prelude.{◌≡◌, ◌*◌};
 ghost use Rattle.reference.specs.Made.{dots, Made, Final};
 
@@ -9,7 +11,7 @@ use reference::job::admit;
 use setup::all::set_up;
 
 mod picture;
-mod tile;
+mod tiles;
 mod triangles;
 
 // Where the words of the triangles begin in the work: behind four words for each dot.

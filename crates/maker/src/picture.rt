@@ -5,7 +5,7 @@ ghost use Rattle.codec.specs.Walk.{There, listed};
 ghost use Rattle.reference.specs.Shows.{Room};
 ghost use Rattle.maker.specs.Tiles.{Equipped, Painted, whole};
 
-use crate::tile::paint_tile;
+use crate::tiles::paint_tile;
 use codec::summary::Summary;
 use meaning::pen::Frame;
 

@@ -1,4 +1,6 @@
 // The pictures of a file by the plain meaning: for each dot all commands, one after the other.
+#![tactic(auto)]
+
 use anyhow::anyhow;
 use codec::refusal::Refusal;
 use console::painter::Painter;

@@ -8,7 +8,7 @@ use Rattle.meaning.specs.declared.points.Point.{Point}
 use Rattle.meaning.specs.declared.projection.View.{View}
 use Rattle.meaning.specs.declared.pen.Pen.{Pen}
 use Rattle.meaning.specs.declared.state.Dot.{Dot}
-use Rattle.meaning.specs.Meaning.{Image, Triple, edge, inside, turns, covers, blended, depth_at, colour_at, brings, part_of, painted, if_covered, middle, at_dot, seen_three, triple_at, all_three, step, after}
+use Rattle.meaning.specs.Meaning.{Image, Triple, edge, inside, turns, covers, blended, brings, part_of, painted, if_covered, middle, at_dot, seen_three, triple_at, all_three, step, after}
 use Rattle.meaning.specs.Laws.{CommandsInOrder, TrianglesInOrder, Turned}
 use Rattle.meaning.proofs.Sides.{coordinates, E}
 

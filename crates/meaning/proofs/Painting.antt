@@ -1,7 +1,7 @@
 -- What is brought and painted at a place that a triangle covers, from the numbers that the code computes.
 -- Assumes nothing.
-use Rattle.std.proofs.Common.{◌≡◌, ℕ, ◌+◌, ◌*◌, ◌/◌, Bool, true, false, cond, not, ◌||◌, ◌⊎◌, List, get_or, ℤ, pos, neg_ℤ, ◌<ℤ◌, Some, None, Option, sym, refl, ap, ◌∙◌, subst, inl, inr, arith}
-use lib.Signed.{lt_z, le_z}
+use Rattle.std.proofs.Common.{◌≡◌, ℕ, ◌+◌, ◌*◌, ◌/◌, true, false, cond, not, ◌⊎◌, List, get_or, ℤ, pos, neg_ℤ, ◌<ℤ◌, Some, None, Option, sym, refl, ap, ◌∙◌, subst, inl, inr, arith}
+use lib.Signed.{lt_z}
 use Rattle.meaning.specs.declared.geometry.Place.{Place}
 use Rattle.meaning.specs.declared.points.Point.{Point}
 use Rattle.meaning.specs.declared.pen.Pen.{Pen}

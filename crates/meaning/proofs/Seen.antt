@@ -1,12 +1,11 @@
 -- When a corner is hidden, and its point when it is not.
 -- Assumes nothing.
-use Rattle.std.proofs.Common.{◌≡◌, ℕ, ◌-◌, ◌/◌, ◌<◌, ◌≤◌, Bool, true, false, cond, ◌&&◌, ℤ, pos, Some, None, Option, sym, refl, ap, ◌∙◌, subst, mul-le-mul_right, arith, w32, w64, SFits, to_z, of_z}
+use Rattle.std.proofs.Common.{◌≡◌, ℕ, ◌-◌, ◌/◌, ◌≤◌, true, false, ℤ, pos, Some, None, sym, refl, ap, ◌∙◌, mul-le-mul_right, arith, w32, w64, SFits, to_z, of_z}
 use native.Mathlib.Nat.{div-le_of_le-mul}
 use lib.Signed.{mag}
 use Rattle.std.proofs.lemmas.Int.{to_z-of_z}
-use Rattle.std.proofs.lemmas.Bool.{and_left, and_right}
+use Rattle.std.proofs.lemmas.Bool.{and_right}
 use Rattle.meaning.specs.declared.points.Corner.{Corner}
-use Rattle.meaning.specs.declared.points.Point.{Point}
 use Rattle.meaning.specs.declared.projection.View.{View}
 use Rattle.meaning.specs.Meaning.{along, is_in_sight, in_bounds, projected, depth_of, point_x, point_y, point_of}
 use Rattle.meaning.specs.Parts.{Sighted, Bounded}

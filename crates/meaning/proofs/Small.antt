@@ -4,7 +4,7 @@ use Rattle.std.proofs.Common.{◌≡◌, ℕ, zero, suc, ◌+◌, ◌/◌, ◌^�
 use native.Mathlib.Nat.{one-le-pow, pow-le-pow_right}
 use lib.Signed.{mag}
 use borrow.Author.Differences.{ints}
-use Rattle.std.specs.List.{AllByRecursion as All}
+use Rattle.std.specs.List.{AllByRecursion}
 use Rattle.std.proofs.lemmas.Bool.{and_parts}
 use Rattle.std.proofs.ByRecursion.{All-get_or}
 use Rattle.fixed_point.specs.Whole.{down}
@@ -123,7 +123,7 @@ byte [] k h = omega arith
 byte (x ∷ l) zero h = h.0
 byte (x ∷ l) (suc k) h = byte l k h.1
 
-texture_fits : (s : Size) (ts : List Image) (p : Pen) → All ImageFits ts → PenFits s ts p → TextureFits (image ts p.texture)
+texture_fits : (s : Size) (ts : List Image) (p : Pen) → AllByRecursion ImageFits ts → PenFits s ts p → TextureFits (image ts p.texture)
 unfolding image
 texture_fits s ts p h f = go p.texture f.texture
   where

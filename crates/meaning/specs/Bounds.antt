@@ -2,7 +2,7 @@
 -- Assumes nothing: the proof is owed by the public function that promises it.
 use Rattle.std.specs.Prelude.{◌≡◌, ℕ, ◌+◌, ◌-◌, ◌*◌, ◌/◌, ◌%◌, ◌^◌, ◌<◌, true, List, length, ℤ, pos, ◌+ℤ◌, ◌-ℤ◌, ◌*ℤ◌, ◌<ℤ◌, Some, None, Option}
 use Rattle.std.specs.Int.Signed.{mag}
-use Rattle.std.specs.List.{AllByRecursion as All}
+use Rattle.std.specs.List.{AllByRecursion}
 use Rattle.meaning.specs.declared.geometry.Place.{Place}
 use Rattle.meaning.specs.declared.points.Corner.{Corner}
 use Rattle.meaning.specs.declared.points.Point.{Point}
@@ -102,7 +102,7 @@ pub record NoNumberTooLarge : Type 0 where
   pub blends :
       (a b c : Point) (m : Place) (f g h : ℕ) → PointFits a → PointFits b → PointFits c → PlaceFits m →
       f < 65536 → g < 65536 → h < 65536 → BlendSmall a b c m f g h
-  pub textures : (s : Size) (ts : List Image) (p : Pen) → All ImageFits ts → PenFits s ts p → TextureFits (image ts p.texture)
+  pub textures : (s : Size) (ts : List Image) (p : Pen) → AllByRecursion ImageFits ts → PenFits s ts p → TextureFits (image ts p.texture)
   pub texels : (t : Image) (u v k : ℕ) → ImageFits t → k < 4 → TexelSmall t u v k
   pub brought :
       (t : Option Image) (a b c : Point) (m : Place) → TextureFits t → PointFits a → PointFits b → PointFits c →

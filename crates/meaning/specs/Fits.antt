@@ -2,7 +2,7 @@
 -- Assumes nothing: these are definitions.
 use Rattle.std.specs.Prelude.{◌≡◌, ℕ, ◌+◌, ◌*◌, ◌^◌, ◌<◌, ◌≤◌, List, length, ℤ}
 use Rattle.std.specs.Int.Signed.{mag}
-use Rattle.std.specs.List.{AllByRecursion as All}
+use Rattle.std.specs.List.{AllByRecursion}
 use Rattle.meaning.specs.declared.geometry.Place.{Place}
 use Rattle.meaning.specs.declared.points.Corner.{Corner}
 use Rattle.meaning.specs.declared.projection.Row.{Row}
@@ -17,7 +17,7 @@ abbrev pub Within : ℤ → ℕ → Type 0
 Within a n = mag a < n
 
 abbrev pub Bytes : List ℕ → Type 0
-Bytes l = All (λ b. b < 256) l
+Bytes l = AllByRecursion (λ b. b < 256) l
 
 pub record PlaceFits (p : Place) : Type 0 where
   pub x : Within p.x 524288
@@ -70,7 +70,7 @@ abbrev pub InstructionFits : Size → List Image → Instruction → Type 0
 InstructionFits s ts (pen p) = PenFits s ts p
 InstructionFits s ts (look w) = ViewFits w
 InstructionFits s ts (clear c z) = (length c ≡ 3) × Bytes c × (z < 65536)
-InstructionFits s ts (triangles l) = (length l ≤ 65535) × All TripleFits l
+InstructionFits s ts (triangles l) = (length l ≤ 65535) × AllByRecursion TripleFits l
 InstructionFits s ts show = Unit {0}
 
 -- a size, textures and commands that a file can hold
@@ -80,6 +80,6 @@ pub record ListFits (s : Size) (ts : List Image) (cs : List Instruction) : Type 
   pub some_height : 1 ≤ s.height
   pub height : s.height ≤ 1024
   pub textures : length ts ≤ 64
-  pub each_texture : All ImageFits ts
+  pub each_texture : AllByRecursion ImageFits ts
   pub commands : length cs ≤ 65535
-  pub each_command : All (InstructionFits s ts) cs
+  pub each_command : AllByRecursion (InstructionFits s ts) cs

@@ -1,6 +1,6 @@
 -- Laws about the meaning. Each is a statement, a type whose proof is owed by the public function that promises it.
 -- Assumes nothing.
-use Rattle.std.specs.Prelude.{◌≡◌, ℕ, ◌+◌, ◌<◌, ◌≤◌, Bool, true, false, cond, not, ◌⊎◌, List, ◌++◌, ℤ, pos, ◌+ℤ◌, ◌-ℤ◌, ◌*ℤ◌, ◌≤ℤ◌, ◌<ℤ◌, Option}
+use Rattle.std.specs.Prelude.{◌≡◌, ℕ, ◌+◌, ◌<◌, ◌≤◌, Bool, false, cond, not, ◌⊎◌, List, ◌++◌, pos, ◌+ℤ◌, ◌-ℤ◌, ◌*ℤ◌, ◌≤ℤ◌, ◌<ℤ◌, Option}
 use Rattle.meaning.specs.declared.geometry.Place.{Place}
 use Rattle.meaning.specs.declared.points.Point.{Point}
 use Rattle.meaning.specs.declared.projection.View.{View}

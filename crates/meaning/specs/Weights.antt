@@ -1,5 +1,5 @@
 -- The weights of a triangle's corners at a place. Assumes nothing.
-use Rattle.std.specs.Prelude.{◌≡◌, ℕ, Bool, true, false, ◌&&◌, ℤ, pos, ◌<ℤ◌, int_lt}
+use Rattle.std.specs.Prelude.{◌≡◌, Bool, true, ◌&&◌, pos, int_lt}
 use Rattle.std.specs.Int.Signed.{mag}
 use Rattle.meaning.specs.declared.geometry.Place.{Place}
 use Rattle.meaning.specs.declared.points.Point.{Point}

@@ -1,4 +1,6 @@
 // What a list of drawing commands means for one dot.
+#![tactic(auto)]
+
 pub mod command;
 pub mod examples;
 pub mod fragment;

@@ -1,4 +1,6 @@
 // Pictures as text.
+#![tactic(auto)]
+
 ghost use Rattle.std.specs.Prelude.{◌≡◌, ◌*◌, ◌/◌, ◌%◌, ◌<◌, [], ◌∷◌, ◌++◌, OnOk};
 ghost use Rattle.output.specs.Text.{digit, gap, row_text, rows_text};
 

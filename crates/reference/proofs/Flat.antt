@@ -4,7 +4,7 @@ use Rattle.std.proofs.Common.{◌≡◌, ℕ, zero, suc, ◌+◌, ◌-◌, ◌*�
 use Rattle.std.proofs.lemmas.List.{length-append, length-drop, get_or_append_left, get_or-append-add, get_or-append_right, get_or-drop, ext_get_or, take_at, drop_at, append_assoc}
 use Rattle.std.proofs.lemmas.Bool.{cases_lt}
 use Rattle.meaning.specs.Meaning.{row}
-use Rattle.std.specs.List.{AllByRecursion as All}
+use Rattle.std.specs.List.{AllByRecursion}
 use Rattle.std.proofs.ByRecursion.{All-append}
 use Rattle.reference.specs.Whole.{flat, cut, grid}
 use Rattle.reference.proofs.Rows.{row_below}
@@ -12,11 +12,11 @@ use Rattle.reference.proofs.Rows.{row_below}
 abbrev pub Long : {A : Type 0} → ℕ → List A → Type 0
 Long n l = length l ≡ n
 
-pub length_flat : {A : Type 0} (n : ℕ) (l : List (List A)) → All (Long n) l → length (flat l) ≡ length l * n
+pub length_flat : {A : Type 0} (n : ℕ) (l : List (List A)) → AllByRecursion (Long n) l → length (flat l) ≡ length l * n
 length_flat n [] e = sym (zero-mul n)
 length_flat n (x ∷ l) e = length-append x (flat l) ∙ omega (arith, e.0, length_flat n l e.1, suc-mul (length l) n)
 
-pub flat_at : {A : Type 0} (n : ℕ) (d : A) (l : List (List A)) → All (Long n) l → (q k : ℕ) → k < n → get_or (flat l) (q * n + k) d ≡ get_or (get_or l q []) k d
+pub flat_at : {A : Type 0} (n : ℕ) (d : A) (l : List (List A)) → AllByRecursion (Long n) l → (q k : ℕ) → k < n → get_or (flat l) (q * n + k) d ≡ get_or (get_or l q []) k d
 flat_at n d [] e q k h = refl
 flat_at n d (x ∷ l) e zero k h =
     let z : 0 * n + k ≡ k = omega (arith, zero-mul n) in
@@ -26,7 +26,7 @@ flat_at n d (x ∷ l) e (suc q) k h =
     ap (λ (y : ℕ). get_or (x ++ flat l) y d) z ∙ get_or-append-add x (flat l) (q * n + k) d ∙ flat_at n d l e.1 q k h
 
 -- what was laid end to end is cut into the same parts
-pub cut_flat : {A : Type 0} (k : ℕ) (l : List (List A)) (rest : List A) → All (Long k) l → cut (length l) k (flat l ++ rest) ≡ l
+pub cut_flat : {A : Type 0} (k : ℕ) (l : List (List A)) (rest : List A) → AllByRecursion (Long k) l → cut (length l) k (flat l ++ rest) ≡ l
 cut_flat k [] rest e = refl
 cut_flat k (x ∷ l) rest e = rw (append_assoc, take_at x (flat l ++ rest) k e.0, drop_at x (flat l ++ rest) k e.0, cut_flat k l rest e.1)
 
@@ -41,12 +41,12 @@ row_at f i zero k h = absurd (omega arith)
 row_at f i (suc n) zero h = let z : i ≡ i + 0 = omega arith in ap f z
 row_at f i (suc n) (suc k) h = let z : suc i + k ≡ i + suc k = omega arith in row_at f (suc i) n k (omega arith) ∙ ap f z
 
-all_row : (P : List ℕ → Type 0) (f : ℕ → List ℕ) → ((i : ℕ) → P (f i)) → (i n : ℕ) → All P (row f i n)
+all_row : (P : List ℕ → Type 0) (f : ℕ → List ℕ) → ((i : ℕ) → P (f i)) → (i n : ℕ) → AllByRecursion P (row f i n)
 unfolding row
 all_row P f h i zero = tt
 all_row P f h i (suc n) = (h i, all_row P f h (suc i) n)
 
-pub all_grid : (P : List ℕ → Type 0) (f : ℕ → ℕ → List ℕ) → ((i j : ℕ) → P (f i j)) → (w j n : ℕ) → All P (grid f w j n)
+pub all_grid : (P : List ℕ → Type 0) (f : ℕ → ℕ → List ℕ) → ((i j : ℕ) → P (f i j)) → (w j n : ℕ) → AllByRecursion P (grid f w j n)
 unfolding grid
 all_grid P f h w j zero = tt
 all_grid P f h w j (suc n) = All-append P (row (λ i. f i j) 0 w) (grid f w (suc j) n) (all_row P (λ i. f i j) (λ i. h i j) 0 w) (all_grid P f h w (suc j) n)

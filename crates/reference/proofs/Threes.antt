@@ -1,7 +1,7 @@
 -- A dot's colour has three parts, if every colour that the commands bring has.
 -- Assumes nothing.
 use Rattle.std.proofs.Common.{◌≡◌, ℕ, Bool, cond, List, [], ◌∷◌, length, Option, refl}
-use Rattle.std.specs.List.{AllByRecursion as All}
+use Rattle.std.specs.List.{AllByRecursion}
 use Rattle.std.proofs.lemmas.Bool.{cond_both}
 use Rattle.meaning.specs.declared.geometry.Place.{Place}
 use Rattle.meaning.specs.declared.points.Point.{Point}
@@ -39,7 +39,7 @@ three_step ts s i j n (clear c z) f h = three_cond (in_frame n.pen.frame i j) (r
 three_step ts s i j n (triangles l) f h = three_all _ n.pen n.view l i j n.dot h
 three_step ts s i j n show f h = h
 
-pub three_after : (ts : List Image) (s : Size) (i j : ℕ) (n : State) (cs : List Instruction) → All (InstructionFits s ts) cs → Three n.dot → Three (after ts i j n cs).dot
+pub three_after : (ts : List Image) (s : Size) (i j : ℕ) (n : State) (cs : List Instruction) → AllByRecursion (InstructionFits s ts) cs → Three n.dot → Three (after ts i j n cs).dot
 unfolding after
 three_after ts s i j n [] f h = h
 three_after ts s i j n (c ∷ cs) f h = three_after ts s i j (step ts i j n c) cs f.1 (three_step ts s i j n c f.0 h)

@@ -1,7 +1,7 @@
 -- The whole lists, from what each dot is.
 -- Assumes nothing.
 use Rattle.std.proofs.Common.{◌≡◌, ℕ, zero, suc, ◌+◌, ◌*◌, ◌/◌, ◌%◌, ◌<◌, ◌≤◌, true, false, List, [], ◌∷◌, ◌++◌, length, get_or, drop, sym, refl, ap, ◌∙◌, subst, inl, inr, append-nil, mul-le-mul_right, mod-lt, mul_assoc, add-mul, div-add-mod', arith}
-use Rattle.std.specs.List.{AllByRecursion as All}
+use Rattle.std.specs.List.{AllByRecursion}
 use Rattle.std.proofs.ByRecursion.{All-append, All-push, All-weaker}
 use Rattle.std.proofs.lemmas.Bool.{cases_lt, le-ltb, lt-ltb}
 use Rattle.std.proofs.lemmas.Bool.Decides.{nat_tests}
@@ -28,7 +28,7 @@ below_all w h i j jh = grind (arith, nat_tests)
 
 module _ (ts : List Image) (s : Size) where
   abbrev Fit : List Instruction → Type 0
-  Fit cs = All (InstructionFits s ts) cs
+  Fit cs = AllByRecursion (InstructionFits s ts) cs
 
   abbrev colour_after : List Instruction → ℕ → ℕ → List ℕ
   colour_after cs i j = (after ts i j (begin s) cs).dot.colour
@@ -43,7 +43,7 @@ module _ (ts : List Image) (s : Size) where
   picture_grid cs j (suc n) = ap (λ (l : List (List ℕ)). row (λ i. colour_after cs i j) 0 s.width ++ l) (picture_grid cs (suc j) n)
 
   abbrev APicture : List (List ℕ) → Type 0
-  APicture l = (length l ≡ s.height * s.width) × All (Long 3) l
+  APicture l = (length l ≡ s.height * s.width) × AllByRecursion (Long 3) l
 
   a_picture : (cs : List Instruction) → Fit cs → APicture (picture ts s cs 0 s.height)
   a_picture cs f =
@@ -53,7 +53,7 @@ module _ (ts : List Image) (s : Size) where
   -- ---- the pictures that are shown
   record ShownSo (before cs : List Instruction) (l : List (List (List ℕ))) : Type 0 where
     many : length l ≡ shows cs
-    pictures : Fit before → Fit cs → All APicture l
+    pictures : Fit before → Fit cs → AllByRecursion APicture l
     at : (q i j : ℕ) → i < s.width → j < s.height → q < shows cs →
         get_or (get_or l q []) (j * s.width + i) [] ≡ (get_or (seen_dots ts i j (after ts i j (begin s) before) cs) q no_dot).colour
 
@@ -93,15 +93,15 @@ module _ (ts : List Image) (s : Size) where
           rw (picture_grid before 0 s.height) (grid_at (colour_after before) s.width 0 s.height i j iw jh ∙ ap (λ (k : ℕ). colour_after before i k) z)
       next (suc q) i j iw jh h more = more q i j iw jh (omega arith)
 
-  all_dots : (l : List (List (List ℕ))) → All APicture l → All (Long 3) (flat l)
+  all_dots : (l : List (List (List ℕ))) → AllByRecursion APicture l → AllByRecursion (Long 3) (flat l)
   all_dots [] e = tt
   all_dots (x ∷ l) e = All-append (Long 3) x (flat l) e.0.1 (all_dots l e.1)
 
   module _ (cs : List Instruction) (fit : Fit cs) where
-    dots_three : All (Long 3) (flat (shown ts s [] cs))
+    dots_three : AllByRecursion (Long 3) (flat (shown ts s [] cs))
     dots_three = all_dots _ ((all_shown [] cs).pictures tt fit)
 
-    pictures_long : All (Long (s.height * s.width)) (shown ts s [] cs)
+    pictures_long : AllByRecursion (Long (s.height * s.width)) (shown ts s [] cs)
     pictures_long = All-weaker APicture _ (λ l e. e.0) _ ((all_shown [] cs).pictures tt fit)
 
     many_dots : length (flat (shown ts s [] cs)) ≡ (shows cs * s.height) * s.width

@@ -1,4 +1,6 @@
 // The pictures of a file dot for dot, and what every maker of them promises.
+#![tactic(auto)]
+
 ghost use Rattle.reference.specs.Made.{Made, Final};
 
 use crate::dots::mean_rows;

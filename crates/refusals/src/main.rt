@@ -1,4 +1,6 @@
 // Judges small files and lengths of lent memory at the edges of every rule, and prints what is said of each.
+#![tactic(auto)]
+
 use codec::judge::judge;
 use codec::refusal::Refusal;
 use reference::job::admit;

@@ -1,4 +1,6 @@
 // Triangles made ready: on the picture, turned to go with the clock, each with its box of dots.
+#![tactic(auto)]
+
 pub mod all;
 pub mod bounds;
 pub mod ready;

@@ -1,2 +1,4 @@
 // Boxes of dots, row by row.
+#![tactic(auto)]
+
 pub mod boxes;

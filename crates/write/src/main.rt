@@ -1,4 +1,6 @@
 // Makes a file of drawing commands from a text.
+#![tactic(auto)]
+
 use crate::draft::Draft;
 use crate::parse::parse;
 use crate::problem::Problem;
@@ -76,7 +78,7 @@ fn make_file(rt: &HostRuntime, draft: &Draft, to: &str) -> anyhow::Result<()> {
         &draft.triangles,
     ) {
         Ok(bytes) => write_file(rt, to, &bytes),
-        Err(error) => Err(reason(error).into()),
+        Err(error) => Err(anyhow!("{}", reason(error))),
     }
 }
 

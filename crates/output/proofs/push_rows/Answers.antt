@@ -1,13 +1,13 @@
-use Rattle.std.proofs.Common.{ℕ, ◌*◌, min, ◌++◌, length, vec_items, ap, ◌∙◌}
+use Rattle.std.proofs.Common.{ℕ, ◌*◌, ◌++◌, vec_items, ap, ◌∙◌}
 use Rattle.output.specs.Text.{rows_text}
 use Rattle.output.proofs.Pictures.{rows_more, rows_end}
 use Rattle.output.proofs.push_rows.Goals as goal
 
 pub loop-preserved : goal.loop-preserved
 loop-preserved c =
-    rows_more c.loop.rest.now c.split-at.result.0.now c.split-at.result.1.now (vec_items c.loop.out) (vec_items c.push-row.new.out) _ (3 * c.from-stride.result)
-    c.min.result c.args.size.height c.loop.counter c.loop-test.true c.min.ensures c.split-at.ensures.front c.split-at.ensures.back
-    c.in-ok-push-row.ensures c.loop.invariant
+    rows_more c.loop.rest.now c.split_at.result.0.now c.split_at.result.1.now (vec_items c.loop.out) (vec_items c.push_row.new.out) _ (3 * c.from-stride.result)
+    c.min.result c.args.size.height c.loop.counter c.loop-test.true c.min.ensures c.split_at.ensures.front c.split_at.ensures.back
+    c.in_ok-push_row.ensures c.loop.invariant
 
 pub returns : goal.returns
 returns c =

@@ -32,17 +32,17 @@ module _ (cs : List Command) (k : ℕ) (d : Command) (h : k < length cs) (zs : L
       ap (λ (l : List ℕ). l ++ rest) (rw (own (get_or cs k d) at n (drop at zs) e) at f) ∙ append_assoc s (command_bytes (instruction_of (get_or cs k d) (drop at zs))) rest ∙
       ap (λ (l : List ℕ). s ++ l) (sym split) ∙ g
 
-pub slice-bounds-push-command-end : goal.slice-bounds-push-command-end
-slice-bounds-push-command-end c =
-    let e = total_next c.args.commands.now c.loop-command.command-index _ c.from-many.result c.loop-command-test.true (c.from-many.ensures ∙ c.triangles-of.ensures) in
+pub slice_bounds-push_command-end : goal.slice_bounds-push_command-end
+slice_bounds-push_command-end c =
+    let e = total_next c.args.commands.now c.loop-command.command-index _ c.from-many.result c.loop-command-test.true (c.from-many.ensures ∙ c.triangles_of.ensures) in
     omega (arith, e, c.loop-command.invariant.0)
 
 pub loop-command-preserved : goal.loop-command-preserved
 loop-command-preserved c = (
   omega
-      (arith, total_next c.args.commands.now c.loop-command.command-index _ c.from-many.result c.loop-command-test.true (c.from-many.ensures ∙ c.triangles-of.ensures), c.loop-command.invariant.0),
+      (arith, total_next c.args.commands.now c.loop-command.command-index _ c.from-many.result c.loop-command-test.true (c.from-many.ensures ∙ c.triangles_of.ensures), c.loop-command.invariant.0),
   more c.args.commands.now c.loop-command.command-index _ c.loop-command-test.true c.args.triangles.now c.loop-command.at c.from-many.result
-      (c.from-many.ensures ∙ c.triangles-of.ensures) (vec_items c.loop-command.out) _ _ c.in-ok-push-command.ensures c.loop-command.invariant.1,
+      (c.from-many.ensures ∙ c.triangles_of.ensures) (vec_items c.loop-command.out) _ _ c.in_ok-push_command.ensures c.loop-command.invariant.1,
 )
 
 pub returns : goal.returns

@@ -6,6 +6,6 @@ use Rattle.codec.proofs.push.push_pen.Goals as goal
 pub returns : goal.returns
 unfolding pen_bytes
 returns c =
-    let h = behind (vec_items c.args.out.now) _ _ c.in-ok-extend-from-slice.ensures.items c.in-ok-push-frame.ensures in
+    let h = behind (vec_items c.args.out.now) _ _ c.in_ok-extend_from_slice.ensures.items c.in_ok-push_frame.ensures in
     let b = flag_byte c.args.pen.keeps in
     cc

@@ -9,15 +9,15 @@ use Rattle.codec.proofs.push.push_textures.Goals as goal
 abbrev left : List ℕ → List TexturePart → List ℕ
 left dots l = all image_bytes (part_images dots l)
 
-pub push-texture-requires : goal.push-texture-requires
-push-texture-requires c = passes (part_ok (length c.args.dots.now)) c.loop-part.part-index c.args.parts.now _ c.loop-part-test.true c.loop-part.invariant.0
+pub push_texture-requires : goal.push_texture-requires
+push_texture-requires c = passes (part_ok (length c.args.dots.now)) c.loop-part.part-index c.args.parts.now _ c.loop-part-test.true c.loop-part.invariant.0
 
 pub loop-part-preserved : goal.loop-part-preserved
 unfolding all
 loop-part-preserved c = (
   pass_next (part_ok (length c.args.dots.now)) c.loop-part.part-index c.args.parts.now c.loop-part.invariant.0,
   part_more (left c.args.dots.now) (λ p. image_bytes (part_image c.args.dots.now p)) (λ x l. refl) c.args.parts.now c.loop-part.part-index _
-      (vec_items c.loop-part.out) _ _ c.loop-part-test.true c.in-ok-push-texture.ensures c.loop-part.invariant.1,
+      (vec_items c.loop-part.out) _ _ c.loop-part-test.true c.in_ok-push_texture.ensures c.loop-part.invariant.1,
 )
 
 pub returns : goal.returns

@@ -12,7 +12,7 @@ pub loop-triangle-preserved : goal.loop-triangle-preserved
 unfolding all
 loop-triangle-preserved c =
     part_more left (λ t. triple_bytes (triple t)) (λ x l. refl) c.args.triangles.now c.loop-triangle.triangle-index _
-    (vec_items c.loop-triangle.out) _ _ c.loop-triangle-test.true c.in-ok-push-triangle.ensures c.loop-triangle.invariant
+    (vec_items c.loop-triangle.out) _ _ c.loop-triangle-test.true c.in_ok-push_triangle.ensures c.loop-triangle.invariant
 
 pub returns : goal.returns
 unfolding all

@@ -4,5 +4,5 @@ use Rattle.codec.proofs.push_space.push_whole.Goals as goal
 
 pub returns : goal.returns
 returns c =
-    c.in-ok-extend-from-slice.ensures.items ∙
-    ap (λ (l : List ℕ). vec_items c.args.out.now ++ l) (c.to-le-bytes.ensures ∙ four_bytes (of_z w32 (to_z w32 (of_z w32 c.args.n))) ∙ whole_bytes c.args.n c.ranges.n)
+    c.in_ok-extend_from_slice.ensures.items ∙
+    ap (λ (l : List ℕ). vec_items c.args.out.now ++ l) (c.to_le_bytes.ensures ∙ four_bytes (of_z w32 (to_z w32 (of_z w32 c.args.n))) ∙ whole_bytes c.args.n c.ranges.n)

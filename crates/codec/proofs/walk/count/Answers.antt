@@ -14,8 +14,8 @@ pass-requires c =
     let a = c.args in
     let v = c.loop.invariant.2 in
     let m = ahead_more a.file.now a.summary c.loop.counter c.loop.reader v.0 v.1 c.loop-test.true c.next-command.result c.next-command.new.reader c.next-command.ensures in
-    amid_all a.file.now a.summary (c.loop.counter + 1) c.next-command.new.reader m.more (λ k. (c.type-inv.file k).fits) c.triangles-of-many.result (corners_of m.next)
-    (corners_many m.next ∙ ap triangles_in m.head ∙ sym c.triangles-of-many.ensures) m.amid
+    amid_all a.file.now a.summary (c.loop.counter + 1) c.next-command.new.reader m.more (λ k. (c.type_inv.file k).fits) c.triangles_of-many.result (corners_of m.next)
+    (corners_many m.next ∙ ap triangles_in m.head ∙ sym c.triangles_of-many.ensures) m.amid
 
 pub loop-preserved : goal.loop-preserved
 loop-preserved c =
@@ -24,11 +24,11 @@ loop-preserved c =
     let m = ahead_more a.file.now a.summary c.loop.counter c.loop.reader v.0 v.1 c.loop-test.true c.next-command.result c.next-command.new.reader c.next-command.ensures in
     let e = total_more a.file.now a.summary c.loop.counter c.loop.reader v.0 v.1 c.loop-test.true counts c.next-command.result c.next-command.new.reader m in
     let f = total_more a.file.now a.summary c.loop.counter c.loop.reader v.0 v.1 c.loop-test.true triangles_in c.next-command.result c.next-command.new.reader m in
-    let ahead = amid_passed a.file.now a.summary (c.loop.counter + 1) c.next-command.new.reader m.more (λ k. (c.type-inv.file k).fits) c.triangles-of-many.result (corners_of m.next)
-    (corners_many m.next ∙ ap triangles_in m.head ∙ sym c.triangles-of-many.ensures) m.amid c.pass.new.reader c.pass.ensures in (
-      omega (arith, c.shows-of-shows.ensures.few),
-      omega (arith, c.from-triangles.ensures, c.triangles-of-many.type-inv),
-      (m.more, ahead, omega (arith, e, v.2, c.shows-of-shows.ensures.value), omega (arith, f, v.3, c.from-triangles.ensures, c.triangles-of-many.ensures)),
+    let ahead = amid_passed a.file.now a.summary (c.loop.counter + 1) c.next-command.new.reader m.more (λ k. (c.type_inv.file k).fits) c.triangles_of-many.result (corners_of m.next)
+    (corners_many m.next ∙ ap triangles_in m.head ∙ sym c.triangles_of-many.ensures) m.amid c.pass.new.reader c.pass.ensures in (
+      omega (arith, c.shows_of-shows.ensures.few),
+      omega (arith, c.from-triangles.ensures, c.triangles_of-many.type_inv),
+      (m.more, ahead, omega (arith, e, v.2, c.shows_of-shows.ensures.value), omega (arith, f, v.3, c.from-triangles.ensures, c.triangles_of-many.ensures)),
     )
 
 pub returns : goal.returns

@@ -25,10 +25,10 @@ pub returns-then-number-eq0 : goal.returns-then-number-eq0
 unfolding image
 returns-then-number-eq0 c = rw c.if-number-eq0.true
 
-pub next-texture-texture-requires : goal.next-texture-texture-requires
-next-texture-texture-requires c =
+pub next_texture-texture-requires : goal.next_texture-texture-requires
+next_texture-texture-requires c =
     let a = c.args in
-    let r = c.before-textures-reader in
+    let r = c.before_textures-reader in
     let o = start a.file.now a.summary r.result c.requires r.ensures.bytes r.ensures.at in
     onward_next a_texture a.file.now a.summary.textures (pictured a.file.now a.summary) c.requires.rest (record { across = 0; down = 0; dots = [] }) c.loop-k.k c.loop-k.reader c.loop-k-test.true (c.loop-k.invariant.1 _ _ o)
 
@@ -37,16 +37,16 @@ loop-k-preserved c = (
   omega arith,
   λ all rest o.
       (onward_more a_texture c.args.file.now c.args.summary.textures all rest (record { across = 0; down = 0; dots = [] }) c.loop-k.k c.loop-k.reader c.loop-k-test.true (c.loop-k.invariant.1 all rest o)
-      _ c.next-texture-texture.new.reader c.next-texture-texture.ensures).1,
+      _ c.next_texture-texture.new.reader c.next_texture-texture.ensures).1,
 )
 
 pub returns-then-k-number : goal.returns-then-k-number
 returns-then-k-number c =
     let a = c.args in
-    let r = c.before-textures-reader in
+    let r = c.before_textures-reader in
     let o = start a.file.now a.summary r.result c.requires r.ensures.bytes r.ensures.at in
     let m = onward_more a_texture a.file.now a.summary.textures (pictured a.file.now a.summary) c.requires.rest (record { across = 0; down = 0; dots = [] }) c.loop-k.k c.loop-k.reader c.loop-k-test.true (c.loop-k.invariant.1 _ _ o)
-    _ c.next-texture-texture.new.reader c.next-texture-texture.ensures in
+    _ c.next_texture-texture.new.reader c.next_texture-texture.ensures in
     ap Some m.0 ∙ sym (image_of_number (pictured a.file.now a.summary) c.loop-k.k a.number _ refl c.if-k-number.true)
 
 pub returns : goal.returns

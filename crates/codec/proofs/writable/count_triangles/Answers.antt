@@ -6,8 +6,8 @@ use Rattle.codec.proofs.writable.count_triangles.Goals as goal
 
 pub loop-command-preserved : goal.loop-command-preserved
 loop-command-preserved c =
-    let e = total_next c.args.commands.now c.loop-command.command-index _ c.from-many.result c.loop-command-test.true (c.from-many.ensures ∙ c.triangles-of.ensures) in
-    (omega (arith, c.from-many.ensures, c.triangles-of.type-inv), omega (arith, e, c.loop-command.invariant.1))
+    let e = total_next c.args.commands.now c.loop-command.command-index _ c.from-many.result c.loop-command-test.true (c.from-many.ensures ∙ c.triangles_of.ensures) in
+    (omega (arith, c.from-many.ensures, c.triangles_of.type_inv), omega (arith, e, c.loop-command.invariant.1))
 
 pub returns : goal.returns
 unfolding triangle_total

@@ -3,24 +3,24 @@ use Rattle.codec.proofs.Appending.{behind}
 use Rattle.codec.proofs.Fitting.{fine, file_parts}
 use Rattle.codec.proofs.writer.push_file.Goals as goal
 
-pub overflow-cast-textures : goal.overflow-cast-textures
-overflow-cast-textures c = omega (arith, (fine c.args.size c.args.textures.now (length c.args.dots.now) c.args.commands.now c.args.triangles.now c.requires).textures)
+pub overflow_cast-textures : goal.overflow_cast-textures
+overflow_cast-textures c = omega (arith, (fine c.args.size c.args.textures.now (length c.args.dots.now) c.args.commands.now c.args.triangles.now c.requires).textures)
 
-pub push-textures-requires : goal.push-textures-requires
-push-textures-requires c = (fine c.args.size c.args.textures.now (length c.args.dots.now) c.args.commands.now c.args.triangles.now c.requires).each_texture
+pub push_textures-requires : goal.push_textures-requires
+push_textures-requires c = (fine c.args.size c.args.textures.now (length c.args.dots.now) c.args.commands.now c.args.triangles.now c.requires).each_texture
 
-pub overflow-cast-commands : goal.overflow-cast-commands
-overflow-cast-commands c = omega (arith, (fine c.args.size c.args.textures.now (length c.args.dots.now) c.args.commands.now c.args.triangles.now c.requires).commands)
+pub overflow_cast-commands : goal.overflow_cast-commands
+overflow_cast-commands c = omega (arith, (fine c.args.size c.args.textures.now (length c.args.dots.now) c.args.commands.now c.args.triangles.now c.requires).commands)
 
-pub push-commands-requires : goal.push-commands-requires
-push-commands-requires c = (fine c.args.size c.args.textures.now (length c.args.dots.now) c.args.commands.now c.args.triangles.now c.requires).triangles
+pub push_commands-requires : goal.push_commands-requires
+push_commands-requires c = (fine c.args.size c.args.textures.now (length c.args.dots.now) c.args.commands.now c.args.triangles.now c.requires).triangles
 
 pub returns : goal.returns
 returns c =
-    behind (vec_items c.args.out.now) _ _ c.in-ok-extend-from-slice.ensures.items
-    (behind (vec_items c.extend-from-slice.new.self) _ _ c.in-ok-push-word.ensures
-    (behind (vec_items c.push-word.new.out) _ _ c.in-ok-push-word-2.ensures
-    (behind (vec_items c.push-word-2.new.out) _ _ c.in-ok-push.ensures.items
-    (behind (vec_items c.push.new.self) _ _ c.in-ok-push-textures.ensures
-    (behind (vec_items c.push-textures.new.out) _ _ c.in-ok-push-word-3.ensures c.in-ok-push-commands.ensures)))))
+    behind (vec_items c.args.out.now) _ _ c.in_ok-extend_from_slice.ensures.items
+    (behind (vec_items c.extend_from_slice.new.self) _ _ c.in_ok-push_word.ensures
+    (behind (vec_items c.push_word.new.out) _ _ c.in_ok-push_word-2.ensures
+    (behind (vec_items c.push_word-2.new.out) _ _ c.in_ok-push.ensures.items
+    (behind (vec_items c.push.new.self) _ _ c.in_ok-push_textures.ensures
+    (behind (vec_items c.push_textures.new.out) _ _ c.in_ok-push_word-3.ensures c.in_ok-push_commands.ensures)))))
     ∙ ap (λ (l : List ℕ). vec_items c.args.out.now ++ l) (sym (file_parts c.args.size c.args.textures.now c.args.dots.now c.args.commands.now c.args.triangles.now))

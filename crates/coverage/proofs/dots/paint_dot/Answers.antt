@@ -11,14 +11,14 @@ use Rattle.reference.proofs.EachDot.{dot_colours, dot_depths}
 use Rattle.coverage.specs.Spots.{spot}
 use Rattle.coverage.proofs.dots.paint_dot.Goals as goal
 
-pub dot-at-requires : goal.dot-at-requires
-dot-at-requires c =
+pub dot_at-requires : goal.dot_at-requires
+dot_at-requires c =
     let a = c.args in
     let room = row_below a.size.width a.j a.size.height c.requires.down in
     record { colours = omega arith; depths = omega arith }
 
-pub put-dot-requires : goal.put-dot-requires
-put-dot-requires c =
+pub put_dot-requires : goal.put_dot-requires
+put_dot-requires c =
     let a = c.args in
     let room = row_below a.size.width a.j a.size.height c.requires.down in
     record { colours = omega arith; depths = omega arith }
@@ -32,16 +32,16 @@ returns c =
     let t = image_if a.texture in
     let C = a.colours.now in
     let D = a.depths.now in
-    let e = c.place-of-place.ensures in
-    let was : c.dot-at.result ≡ dot_of w C D a.i a.j = c.dot-at.ensures ∙ ap (spot C D) e in
+    let e = c.place_of-place.ensures in
+    let was : c.dot_at.result ≡ dot_of w C D a.i a.j = c.dot_at.ensures ∙ ap (spot C D) e in
     let inside : covers f.a f.b f.c (middle a.i a.j) ≡ true = (and_parts _ _ (subst (λ (m : Place). holds f.a f.b f.c m ≡ true) c.requires.place f.covered)).1 in
-    let is : c.paint-dot.result ≡ if_covered t a.pen f.a f.b f.c (middle a.i a.j) (dot_of w C D a.i a.j) =
-    c.paint-dot.ensures ∙ (λ n. painted t a.pen f.a f.b f.c (c.requires.place n) (was n)) ∙ sym (cond-true (covers f.a f.b f.c (middle a.i a.j)) _ _ inside) in
+    let is : c.paint_dot.result ≡ if_covered t a.pen f.a f.b f.c (middle a.i a.j) (dot_of w C D a.i a.j) =
+    c.paint_dot.ensures ∙ (λ n. painted t a.pen f.a f.b f.c (c.requires.place n) (was n)) ∙ sym (cond-true (covers f.a f.b f.c (middle a.i a.j)) _ _ inside) in
     record {
-      colours = dot_colours w a.i a.j c.requires.across (λ i j k. get_or (if_covered t a.pen f.a f.b f.c (middle i j) (dot_of w C D i j)).colour k 0) c.paint-dot.result.colour C c.put_dot_lem.new.colours
+      colours = dot_colours w a.i a.j c.requires.across (λ i j k. get_or (if_covered t a.pen f.a f.b f.c (middle i j) (dot_of w C D i j)).colour k 0) c.paint_dot.result.colour C c.put_dot_lem.new.colours
           (λ k. ap (λ (d : Dot). get_or d.colour k 0) is) (rw e at c.put_dot_lem.ensures.colours);
       depths =
           rw (c.put_dot_lem.ensures.depths, e)
-          (dot_depths w a.i a.j c.requires.across (λ i j. (if_covered t a.pen f.a f.b f.c (middle i j) (dot_of w C D i j)).depth) c.paint-dot.result.depth D (ap (λ (d : Dot). d.depth) is)
+          (dot_depths w a.i a.j c.requires.across (λ i j. (if_covered t a.pen f.a f.b f.c (middle i j) (dot_of w C D i j)).depth) c.paint_dot.result.depth D (ap (λ (d : Dot). d.depth) is)
           (omega (arith, row_below w a.j a.size.height c.requires.down)));
     }

@@ -44,14 +44,14 @@ share t i j m s wa wb wc area d o x h e fab fbc fca ua ub uc ha hb hc =
       area_is = e;
     })
 
-pub invariant-of-weights : goal.invariant-of-weights
-invariant-of-weights c =
-    let w = share c.args.triangle c.args.i c.args.j c.middle-of.result c.args.sides _ _ _ _ c.middle-of.ensures c.requires.sound c.requires.seen c.requires.covered c.requires.whole
+pub invariant_of-weights : goal.invariant_of-weights
+invariant_of-weights c =
+    let w = share c.args.triangle c.args.i c.args.j c.middle_of.result c.args.sides _ _ _ _ c.middle_of.ensures c.requires.sound c.requires.seen c.requires.covered c.requires.whole
     (search rules) (search rules) (search rules) (search rules) (search rules) (search rules) (omega arith) (omega arith) (omega arith) in
     (w.some, (w.sum, (w.small, tt)))
 
-pub invariant-of-result : goal.invariant-of-result
-invariant-of-result c =
-    let w = share c.args.triangle c.args.i c.args.j c.middle-of.result c.args.sides _ _ _ _ c.middle-of.ensures c.requires.sound c.requires.seen c.requires.covered c.requires.whole
+pub invariant_of-result : goal.invariant_of-result
+invariant_of-result c =
+    let w = share c.args.triangle c.args.i c.args.j c.middle_of.result c.args.sides _ _ _ _ c.middle_of.ensures c.requires.sound c.requires.seen c.requires.covered c.requires.whole
     (search rules) (search rules) (search rules) (search rules) (search rules) (search rules) (omega arith) (omega arith) (omega arith) in
     (w.held, (w.a_is, (w.b_is, (w.c_is, (w.area_is, tt)))))

@@ -21,10 +21,10 @@ narrow p q m i j r fp fq hi hj e f d =
     record { fits = simp to_z-of_z k; is = simp to_z-of_z g }
 
 all : (c : goal.After-side) → Narrow c.side.result (edge c.args.p c.args.q (middle c.args.i c.args.j))
-all c = narrow _ _ _ _ _ _ c.requires.0 c.requires.1 c.ranges.i.fits c.ranges.j.fits c.middle-of.ensures (search rules) c.side.ensures.value
+all c = narrow _ _ _ _ _ _ c.requires.0 c.requires.1 c.ranges.i.fits c.ranges.j.fits c.middle_of.ensures (search rules) c.side.ensures.value
 
-pub overflow-cast-result : goal.overflow-cast-result
-overflow-cast-result c = (all c).ranges
+pub overflow_cast-result : goal.overflow_cast-result
+overflow_cast-result c = (all c).ranges
 
 pub returns : goal.returns
 returns c = (all c).is

@@ -10,13 +10,13 @@ loop-top-preserved c =
     let a = c.args in
     let s = a.summary.size in
     let o = c.loop-top in
-    let bottom = c.tile-end-bottom.result in
-    let on = c.tile-end-bottom.ensures.more c.loop-top-test.true in (
+    let bottom = c.tile_end-bottom.result in
+    let on = c.tile_end-bottom.ensures.more c.loop-top-test.true in (
       omega arith,
       region_more (pictured a.file.now a.summary) s (listed a.file.now a.summary) a.colours.now a.depths.now a.shown.now
           (in_box 0 0 s.width o.top) (in_box 0 o.top s.width bottom) (in_box 0 0 s.width bottom)
-          o.colours o.depths o.shown c.paint-band.new.colours c.paint-band.new.depths c.paint-band.new.shown
-          (down 0 s.width 0 o.top bottom (omega arith) (omega (arith, on))) o.invariant.1 c.paint-band.ensures,
+          o.colours o.depths o.shown c.paint_band.new.colours c.paint_band.new.depths c.paint_band.new.shown
+          (down 0 s.width 0 o.top bottom (omega arith) (omega (arith, on))) o.invariant.1 c.paint_band.ensures,
     )
 
 pub returns : goal.returns

@@ -21,7 +21,7 @@ cover-requires c =
     let a = c.args in
     let f = c.meet-frame.result in
     let m = c.meet-frame.ensures in
-    let here = and_parts (in_frame a.tile f.left f.top) (in_frame a.triangle.frame f.left f.top) (sym (m.is f.left f.top) ∙ first_dot f (sym c.if-has-dots.ensures)) in
+    let here = and_parts (in_frame a.tile f.left f.top) (in_frame a.triangle.frame f.left f.top) (sym (m.is f.left f.top) ∙ first_dot f (sym c.if-has_dots.ensures)) in
     record {
       sound = c.requires.sound f.left f.top here.1;
       right = omega (arith, m.right, c.requires.right);
@@ -30,16 +30,16 @@ cover-requires c =
       depths = c.requires.depths;
     }
 
-pub returns-then-has-dots : goal.returns-then-has-dots
-returns-then-has-dots c = λ v z s.
+pub returns-then-has_dots : goal.returns-then-has_dots
+returns-then-has_dots c = λ v z s.
     let a = c.args in
     stands_painted (image_if a.texture) a.pen v z a.triangle a.size.width (in_frame c.meet-frame.result) (in_frame a.tile) a.colours.now a.depths.now c.cover.new.colours c.cover.new.depths s
     c.meet-frame.ensures.is c.cover.ensures
 
-pub returns-else-has-dots : goal.returns-else-has-dots
-returns-else-has-dots c = λ v z s.
+pub returns-else-has_dots : goal.returns-else-has_dots
+returns-else-has_dots c = λ v z s.
     let a = c.args in
     let f = c.meet-frame.result in
     stands_painted (image_if a.texture) a.pen v z a.triangle a.size.width (in_frame f) (in_frame a.tile) a.colours.now a.depths.now a.colours.now a.depths.now s
     c.meet-frame.ensures.is
-    (changes_none a.size.width (painting (image_if a.texture) a.pen a.triangle) (in_frame f) a.colours.now a.depths.now (λ i j b. absurd (true≢false (sym b ∙ no_dot f (sym c.if-has-dots.ensures) i j))))
+    (changes_none a.size.width (painting (image_if a.texture) a.pen a.triangle) (in_frame f) a.colours.now a.depths.now (λ i j b. absurd (true≢false (sym b ∙ no_dot f (sym c.if-has_dots.ensures) i j))))

@@ -23,8 +23,8 @@ stands W at p v zs k n t s h e is =
 pub loop-k-init : goal.loop-k-init
 loop-k-init c = λ v zs e s. drawn_start (image_if c.args.texture) c.args.pen v zs c.args.size.width (in_frame c.args.tile) c.args.colours.now c.args.depths.now
 
-pub paint-triangle-requires : goal.paint-triangle-requires
-paint-triangle-requires c =
+pub paint_triangle-requires : goal.paint_triangle-requires
+paint_triangle-requires c =
     let a = c.args in
     let p = c.requires.stored in
     let s = stands a.work.now a.at a.pen p.0 p.1 c.loop-k.k c.from.result c.load-triangle.result p.3 (omega (arith, p.2)) c.from.ensures c.load-triangle.ensures in
@@ -46,8 +46,8 @@ loop-k-preserved c = λ v zs e s.
     let w = a.size.width in
     let less : k < length zs = omega (arith, e) in
     let stood = stands a.work.now a.at a.pen v zs k c.from.result c.load-triangle.result s less c.from.ensures c.load-triangle.ensures in
-    drawn_more t a.pen v zs w (in_frame a.tile) a.colours.now a.depths.now (get_or zs k no_triple) (drop (k + 1) zs) c.loop-k.colours c.loop-k.depths c.paint-triangle.new.colours c.paint-triangle.new.depths
-    (c.paint-triangle.ensures v (get_or zs k no_triple) stood)
+    drawn_more t a.pen v zs w (in_frame a.tile) a.colours.now a.depths.now (get_or zs k no_triple) (drop (k + 1) zs) c.loop-k.colours c.loop-k.depths c.paint_triangle.new.colours c.paint_triangle.new.depths
+    (c.paint_triangle.ensures v (get_or zs k no_triple) stood)
     (subst (λ (l : List Triple). Drawn t a.pen v zs w (in_frame a.tile) a.colours.now a.depths.now l c.loop-k.colours c.loop-k.depths) (drop_more zs k no_triple less) (c.loop-k.invariant v zs e s))
 
 pub returns : goal.returns

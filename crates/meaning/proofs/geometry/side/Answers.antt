@@ -1,4 +1,4 @@
-use Rattle.std.proofs.Common.{◌≡◌, ◌^◌, ◌<◌, ◌≤◌, ℤ, ◌-ℤ◌, ◌*ℤ◌, sym, ap, ◌∙◌, subst, le_of_lt, arith, w32, w64, SFits, to_z, of_z, rules}
+use Rattle.std.proofs.Common.{◌≡◌, ◌^◌, ◌<◌, ◌≤◌, ℤ, ◌-ℤ◌, ◌*ℤ◌, sym, ◌∙◌, subst, le_of_lt, arith, w32, w64, SFits, to_z, of_z, rules}
 use lib.Signed.{mag}
 use mir.Syntax.{w128}
 use Rattle.std.proofs.lemmas.Int.{ints, to_z-of_z}
@@ -39,8 +39,8 @@ apart r l h k =
     let f : SFits w128 (r -ℤ l) = omega (arith, ints) in
     record { fits = simp to_z-of_z f; is = simp to_z-of_z; small = le_of_lt (sub_mag r l (2 ^ 65) (2 ^ 65) (omega arith) (omega arith)) }
 
-pub overflow-sub-result : goal.overflow-sub-result
-overflow-sub-result c = (apart c.product-right.result c.product-left.result (right c).1 (left c).1).fits
+pub overflow_sub-result : goal.overflow_sub-result
+overflow_sub-result c = (apart c.product-right.result c.product-left.result (right c).1 (left c).1).fits
 
 pub returns : goal.returns
 unfolding edge

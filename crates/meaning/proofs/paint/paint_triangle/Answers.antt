@@ -19,15 +19,15 @@ sign z t b f e h = ap (λ (i : ℤ). lt_z i (pos 0)) (sym (to_z-of_z w128 z f �
 pub returns-then-turn-lt0 : goal.returns-then-turn-lt0
 returns-then-turn-lt0 c =
     let t = image_if c.args.texture in
-    c.paint-if-covered.ensures
-    ∙ ap (λ (m : Place). cond (holds c.args.a c.args.c c.args.b m) (painted t c.args.pen c.args.a c.args.c c.args.b m c.args.dot) c.args.dot) c.middle-of-place.ensures
+    c.paint_if_covered.ensures
+    ∙ ap (λ (m : Place). cond (holds c.args.a c.args.c c.args.b m) (painted t c.args.pen c.args.a c.args.c c.args.b m c.args.dot) c.args.dot) c.middle_of-place.ensures
     ∙ against t c.args.pen c.args.a c.args.b c.args.c c.args.i c.args.j c.args.dot (sym c.if-not-contains.ensures)
     (sign c.turn.result (turns c.args.a c.args.b c.args.c) _ (search rules) c.turn.ensures.value c.if-turn-lt0.true)
 
 pub returns-else-turn-lt0 : goal.returns-else-turn-lt0
 returns-else-turn-lt0 c =
     let t = image_if c.args.texture in
-    c.paint-if-covered-else-turn-lt0.ensures
-    ∙ ap (λ (m : Place). cond (holds c.args.a c.args.b c.args.c m) (painted t c.args.pen c.args.a c.args.b c.args.c m c.args.dot) c.args.dot) c.middle-of-place.ensures
+    c.paint_if_covered-else-turn-lt0.ensures
+    ∙ ap (λ (m : Place). cond (holds c.args.a c.args.b c.args.c m) (painted t c.args.pen c.args.a c.args.b c.args.c m c.args.dot) c.args.dot) c.middle_of-place.ensures
     ∙ with_clock t c.args.pen c.args.a c.args.b c.args.c c.args.i c.args.j c.args.dot (sym c.if-not-contains.ensures)
     (sign c.turn.result (turns c.args.a c.args.b c.args.c) _ (search rules) c.turn.ensures.value c.if-turn-lt0.false)

@@ -1,5 +1,5 @@
 use Rattle.std.proofs.Common.{arith}
-use Rattle.std.proofs.lemmas.Int.{ints, to_z-of_z}
+use Rattle.std.proofs.lemmas.Int.{ints}
 use Rattle.meaning.specs.Meaning.{in_bounds}
 use Rattle.meaning.proofs.projection.in_bounds.Goals as goal
 

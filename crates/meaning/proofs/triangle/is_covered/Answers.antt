@@ -1,11 +1,11 @@
-use Rattle.std.proofs.Common.{arith, rules}
+use Rattle.std.proofs.Common.{arith}
 use Rattle.meaning.specs.Meaning.{covers}
 use Rattle.meaning.proofs.triangle.is_covered.Goals as goal
 
-pub returns-then-is-inside-2 : goal.returns-then-is-inside-2
+pub returns-then-is_inside-2 : goal.returns-then-is_inside-2
 unfolding covers
-returns-then-is-inside-2 c = grind arith
+returns-then-is_inside-2 c = grind arith
 
-pub returns-else-is-inside-2 : goal.returns-else-is-inside-2
+pub returns-else-is_inside-2 : goal.returns-else-is_inside-2
 unfolding covers
-returns-else-is-inside-2 c = grind arith
+returns-else-is_inside-2 c = grind arith

@@ -11,8 +11,8 @@ loop-i-preserved c =
     let o = c.loop-i in
     region_more (pictured a.file.now a.summary) a.summary.size (listed a.file.now a.summary) a.colours.now a.depths.now a.shown.now
     (in_box 0 a.j o.i (a.j + 1)) (in_box o.i a.j (o.i + 1) (a.j + 1)) (in_box 0 a.j (o.i + 1) (a.j + 1))
-    o.colours o.depths o.shown c.mean-dot.new.colours c.mean-dot.new.depths c.mean-dot.new.shown
-    (across 0 o.i (o.i + 1) a.j (a.j + 1) (omega arith) (omega arith)) o.invariant c.mean-dot.ensures
+    o.colours o.depths o.shown c.mean_dot.new.colours c.mean_dot.new.depths c.mean_dot.new.shown
+    (across 0 o.i (o.i + 1) a.j (a.j + 1) (omega arith) (omega arith)) o.invariant c.mean_dot.ensures
 
 pub returns : goal.returns
 returns c =

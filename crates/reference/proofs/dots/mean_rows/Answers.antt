@@ -12,8 +12,8 @@ loop-j-preserved c =
     let w = a.summary.size.width in
     region_more (pictured a.file.now a.summary) a.summary.size (listed a.file.now a.summary) a.colours.now a.depths.now a.shown.now
     (in_box 0 0 w o.j) (in_box 0 o.j w (o.j + 1)) (in_box 0 0 w (o.j + 1))
-    o.colours o.depths o.shown c.mean-row.new.colours c.mean-row.new.depths c.mean-row.new.shown
-    (down 0 w 0 o.j (o.j + 1) (omega arith) (omega arith)) o.invariant c.mean-row.ensures
+    o.colours o.depths o.shown c.mean_row.new.colours c.mean_row.new.depths c.mean_row.new.shown
+    (down 0 w 0 o.j (o.j + 1) (omega arith) (omega arith)) o.invariant c.mean_row.ensures
 
 pub returns : goal.returns
 returns c =

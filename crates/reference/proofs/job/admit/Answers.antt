@@ -7,8 +7,8 @@ use Rattle.reference.proofs.job.admit.Goals as goal
 
 pub returns : goal.returns
 returns c =
-    let n = c.in-ok-needs.needs in
-    let h = c.in-ok-needs.ensures in
+    let n = c.in_ok-needs.needs in
+    let h = c.in_ok-needs.ensures in
     record {
       verdict =
           ap (λ (v : Verdict). lent v c.args.colours c.args.depths c.args.work c.args.shown) h.verdict

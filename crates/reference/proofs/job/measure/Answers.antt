@@ -17,11 +17,11 @@ bounds : (file : List ℕ) (m : Summary) → ((k : ℕ) → get_or file k 0 < 25
 bounds file m below h = (written_so file m.size (pictured file m) (listed file m) below (verdict file m h)).0
 
 pub count-counts-requires : goal.count-counts-requires
-count-counts-requires c = there c.args.file.now c.in-ok-summary.summary _ c.in-ok-summary.ensures
+count-counts-requires c = there c.args.file.now c.in_ok-summary.summary _ c.in_ok-summary.ensures
 
-pub overflow-mul-result-9 : goal.overflow-mul-result-9
-overflow-mul-result-9 c =
-    let f = bounds c.args.file.now c.in-ok-summary.summary (λ k. (c.type-inv.file k).fits) c.in-ok-summary.ensures in
+pub overflow_mul-result-9 : goal.overflow_mul-result-9
+overflow_mul-result-9 c =
+    let f = bounds c.args.file.now c.in_ok-summary.summary (λ k. (c.type_inv.file k).fits) c.in_ok-summary.ensures in
     let low : c.from-height.result ≤ 1024 = omega (arith, f.height, c.from-height.ensures) in
     let narrow : c.from-width.result ≤ 1024 = omega (arith, f.width, c.from-width.ensures) in
     let rows : c.count-counts.result.shows * c.from-height.result ≤ 65535 * 1024 = mul-le-mul c.count-counts.ensures.few.0 low in
@@ -30,8 +30,8 @@ overflow-mul-result-9 c =
 
 pub returns : goal.returns
 returns c =
-    let m = c.in-ok-summary.summary in
-    let h = c.in-ok-summary.ensures in
+    let m = c.in_ok-summary.summary in
+    let h = c.in_ok-summary.ensures in
     let eh = c.from-height.ensures in
     let ew = c.from-width.ensures in
     let en = c.count-counts.ensures.shows in
@@ -39,7 +39,7 @@ returns c =
     record {
       verdict = verdict c.args.file.now m h;
       there = there c.args.file.now m _ h;
-      fits = bounds c.args.file.now m (λ k. (c.type-inv.file k).fits) h;
+      fits = bounds c.args.file.now m (λ k. (c.type_inv.file k).fits) h;
       many = en;
       colours = cc;
       depths = cc;

@@ -20,7 +20,7 @@ loop-init c =
     let cs = listed a.file.now a.summary in
     let b = begin a.summary.size in (
       cs,
-      c.before-commands-reader.ensures,
+      c.before_commands-reader.ensures,
       (
         0,
         omega arith,
@@ -38,27 +38,27 @@ room W base n at many p v file m left more long o e f h =
     next_room W base n (tasks (begin m.size).pen (begin m.size).view (listed file m)) p v left o at many (triangle_count more) long e f
     (rw (tasks_length (begin m.size).pen (begin m.size).view (listed file m)) h)
 
-pub set-up-some-requires : goal.set-up-some-requires
-set-up-some-requires c =
+pub set_up_some-requires : goal.set_up_some-requires
+set_up_some-requires c =
     let a = c.args in
     let v = c.loop.invariant in
     let m = ahead_more a.file.now a.summary c.loop.counter c.loop.reader v.0 v.1 c.loop-test.true c.next-command.result c.next-command.new.reader c.next-command.ensures in
     let t = total_more a.file.now a.summary c.loop.counter c.loop.reader v.0 v.1 c.loop-test.true triangles_in c.next-command.result c.next-command.new.reader m in
     let long : length c.loop.work ≡ length a.work.now = search rules in
     record {
-      ahead = (a.file.now, a.summary, (c.loop.counter + 1, corners_of m.next, m.more, corners_many m.next ∙ ap triangles_in m.head ∙ sym c.triangles-of-many.ensures, m.amid));
-      room = room c.loop.work a.base v.2.0 c.loop.at c.triangles-of-many.result c.loop.context.pen c.loop.context.view a.file.now a.summary v.0 m.more (length c.loop.work) v.2.2 v.2.1
-          (t ∙ ap (λ (n : ℕ). n + triangle_count m.more) (sym c.triangles-of-many.ensures)) (rw long c.requires.room);
+      ahead = (a.file.now, a.summary, (c.loop.counter + 1, corners_of m.next, m.more, corners_many m.next ∙ ap triangles_in m.head ∙ sym c.triangles_of-many.ensures, m.amid));
+      room = room c.loop.work a.base v.2.0 c.loop.at c.triangles_of-many.result c.loop.context.pen c.loop.context.view a.file.now a.summary v.0 m.more (length c.loop.work) v.2.2 v.2.1
+          (t ∙ ap (λ (n : ℕ). n + triangle_count m.more) (sym c.triangles_of-many.ensures)) (rw long c.requires.room);
     }
 
-pub overflow-add-at : goal.overflow-add-at
-overflow-add-at c =
+pub overflow_add-at : goal.overflow_add-at
+overflow_add-at c =
     let a = c.args in
     let v = c.loop.invariant in
     let m = ahead_more a.file.now a.summary c.loop.counter c.loop.reader v.0 v.1 c.loop-test.true c.next-command.result c.next-command.new.reader c.next-command.ensures in
     let t = total_more a.file.now a.summary c.loop.counter c.loop.reader v.0 v.1 c.loop-test.true triangles_in c.next-command.result c.next-command.new.reader m in
-    let r = room c.loop.work a.base v.2.0 c.loop.at c.triangles-of-many.result c.loop.context.pen c.loop.context.view a.file.now a.summary v.0 m.more (length a.work.now) v.2.2 v.2.1
-    (t ∙ ap (λ (n : ℕ). n + triangle_count m.more) (sym c.triangles-of-many.ensures)) c.requires.room in
+    let r = room c.loop.work a.base v.2.0 c.loop.at c.triangles_of-many.result c.loop.context.pen c.loop.context.view a.file.now a.summary v.0 m.more (length a.work.now) v.2.2 v.2.1
+    (t ∙ ap (λ (n : ℕ). n + triangle_count m.more) (sym c.triangles_of-many.ensures)) c.requires.room in
     record { fits = omega (arith, r, c.from.ensures) }
 
 pub loop-preserved : goal.loop-preserved
@@ -71,9 +71,9 @@ loop-preserved c =
     let all = tasks (begin a.summary.size).pen (begin a.summary.size).view (listed a.file.now a.summary) in
     let split : tasks x.pen x.view v.0 ≡ map (task y.pen y.view) (corners_of m.next) ++ tasks y.pen y.view m.more =
     ap (tasks x.pen x.view) m.both ∙ rw (c.obey-context.ensures.pen, c.obey-context.ensures.view) (tasks_split x.pen x.view m.next c.next-command.result m.more m.head) in
-    let d = c.set-up-some.ensures a.file.now a.summary (c.loop.counter + 1) (corners_of m.next) m.more a.base v.2.0 all (tasks y.pen y.view m.more)
-    (corners_many m.next ∙ ap triangles_in m.head ∙ sym c.triangles-of-many.ensures) m.amid v.2.1 (subst (StoredSoFar c.loop.work a.base v.2.0 all) split v.2.2) in
-    (m.more, d.0, (v.2.0 + c.triangles-of-many.result, omega (arith, v.2.1, c.from.ensures), d.1))
+    let d = c.set_up_some.ensures a.file.now a.summary (c.loop.counter + 1) (corners_of m.next) m.more a.base v.2.0 all (tasks y.pen y.view m.more)
+    (corners_many m.next ∙ ap triangles_in m.head ∙ sym c.triangles_of-many.ensures) m.amid v.2.1 (subst (StoredSoFar c.loop.work a.base v.2.0 all) split v.2.2) in
+    (m.more, d.0, (v.2.0 + c.triangles_of-many.result, omega (arith, v.2.1, c.from.ensures), d.1))
 
 pub returns : goal.returns
 returns c =

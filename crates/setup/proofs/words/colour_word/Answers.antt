@@ -10,4 +10,4 @@ returns c =
     let b1 : get_or l 1 0 < 256 = search rules in
     let b2 : get_or l 2 0 < 256 = search rules in
     let b3 : get_or l 3 0 < 256 = search rules in
-    colour_back l c.from-le-bytes.result four b0 b1 b2 b3 c.from-le-bytes.ensures
+    colour_back l c.from_le_bytes.result four b0 b1 b2 b3 c.from_le_bytes.ensures

@@ -6,9 +6,9 @@ pub returns : goal.returns
 returns c =
     let w = c.args.work.now in
     let at = c.args.at in
-    let new = c.copy-from-slice.new.self in
+    let new = c.copy_from_slice.new.self in
     let sixteen : length new ≡ 16 = search rules in
     record {
-      stored = same_sixteen _ _ (λ n h. part_new w new at c.requires.room sixteen n h ∙ ap (λ (l : List ℕ). get_or l n 0) c.copy-from-slice.ensures.after) ∙ c.pack.ensures;
+      stored = same_sixteen _ _ (λ n h. part_new w new at c.requires.room sixteen n h ∙ ap (λ (l : List ℕ). get_or l n 0) c.copy_from_slice.ensures.after) ∙ c.pack.ensures;
       others = part_old w new at c.requires.room sixteen;
     }

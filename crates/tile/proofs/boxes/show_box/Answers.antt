@@ -6,14 +6,14 @@ use Rattle.reference.proofs.Rows.{copied_more, copied_picture}
 use Rattle.tile.proofs.Frames.{row_room, picture_row, picture_cut}
 use Rattle.tile.proofs.boxes.show_box.Goals as goal
 
-pub slice-bounds-row-end : goal.slice-bounds-row-end
-slice-bounds-row-end c =
+pub slice_bounds-row-end : goal.slice_bounds-row-end
+slice_bounds-row-end c =
     let s = c.args.size in
     let n = c.args.number in
     omega (arith, row_room s.width ((n + 1) * s.height) _ _ c.from-width.ensures (picture_row n s.height c.loop-j.j _ _ c.from.ensures c.from-2.ensures (omega arith)))
 
-pub slice-bounds-copy-from-slice-end : goal.slice-bounds-copy-from-slice-end
-slice-bounds-copy-from-slice-end c = let s = c.args.size in omega (arith, row_room s.width s.height c.loop-j.j _ c.from-width.ensures (omega arith))
+pub slice_bounds-copy_from_slice-end : goal.slice_bounds-copy_from_slice-end
+slice_bounds-copy_from_slice-end c = let s = c.args.size in omega (arith, row_room s.width s.height c.loop-j.j _ c.from-width.ensures (omega arith))
 
 pub loop-j-preserved : goal.loop-j-preserved
 loop-j-preserved c =
@@ -21,8 +21,8 @@ loop-j-preserved c =
     let s = a.size in
     let p = c.part-left.result in
     let room = row_room s.width ((a.number + 1) * s.height) _ _ c.from-width.ensures (picture_row a.number s.height c.loop-j.j _ _ c.from.ensures c.from-2.ensures (omega arith)) in
-    copied_more c.from-width.result (c.from.result * c.from-2.result) p.0 c.part-top.result.0 p.1 c.loop-j.j c.loop-j.shown c.copy-from-slice.new.self a.shown.now a.colours.now
-    (omega arith) (omega arith) (omega arith) (omega arith) (search rules) c.copy-from-slice.ensures.after c.loop-j.invariant
+    copied_more c.from-width.result (c.from.result * c.from-2.result) p.0 c.part-top.result.0 p.1 c.loop-j.j c.loop-j.shown c.copy_from_slice.new.self a.shown.now a.colours.now
+    (omega arith) (omega arith) (omega arith) (omega arith) (search rules) c.copy_from_slice.ensures.after c.loop-j.invariant
 
 pub returns : goal.returns
 returns c =

@@ -3,21 +3,21 @@ use Rattle.std.proofs.lemmas.Result.{err_from_is_err_and}
 use Rattle.codec.proofs.Judging.{number_out, number_bad, number_good, value_one}
 use Rattle.codec.proofs.reader.Reader.byte.Goals as goal
 
-pub returns-in-err-bytes : goal.returns-in-err-bytes
-returns-in-err-bytes c =
-    let p = err_from_is_err_and c.from-residual.result c.from-residual.ensures.1 in
-    record { reads = number_out 1 c.take.ensures.reads _ _ _ c.in-err-bytes.was p; within = rw p.1 tt }
+pub returns-in_err-bytes : goal.returns-in_err-bytes
+returns-in_err-bytes c =
+    let p = err_from_is_err_and c.from_residual.result c.from_residual.ensures.1 in
+    record { reads = number_out 1 c.take.ensures.reads _ _ _ c.in_err-bytes.was p; within = rw p.1 tt }
 
 pub returns-then-value-least : goal.returns-then-value-least
 returns-then-value-least c =
-    let v = value_one c.in-ok-bytes.bytes.now c.in-ok-bytes.ensures.long in
+    let v = value_one c.in_ok-bytes.bytes.now c.in_ok-bytes.ensures.long in
     record {
       within = tt;
-      reads = number_bad 1 c.take.ensures.reads _ _ _ c.in-ok-bytes.was _ c.refuse.ensures.number c.refuse.ensures.place _ v
+      reads = number_bad 1 c.take.ensures.reads _ _ _ c.in_ok-bytes.was _ c.refuse.ensures.number c.refuse.ensures.place _ v
           (elim c.then-value-least.either [ inl p ↦ inl p | inr p ↦ inr p.1 ]);
     }
 
 pub returns : goal.returns
 returns c =
-    let v = value_one c.in-ok-bytes.bytes.now c.in-ok-bytes.ensures.long in
-    record { within = (c.if-value-least.false, c.if-most-value.false); reads = number_good 1 c.take.ensures.reads _ _ _ c.in-ok-bytes.was _ v c.if-value-least.false c.if-most-value.false }
+    let v = value_one c.in_ok-bytes.bytes.now c.in_ok-bytes.ensures.long in
+    record { within = (c.if-value-least.false, c.if-most-value.false); reads = number_good 1 c.take.ensures.reads _ _ _ c.in_ok-bytes.was _ v c.if-value-least.false c.if-most-value.false }

@@ -5,20 +5,20 @@ use Rattle.codec.proofs.Chains.{go_on, go_out}
 use Rattle.codec.proofs.Judging.{three}
 use Rattle.codec.proofs.reader.Reader.clear.Goals as goal
 
-pub returns-in-err-bytes : goal.returns-in-err-bytes
+pub returns-in_err-bytes : goal.returns-in_err-bytes
 unfolding a_clear
-returns-in-err-bytes c =
-    go_out _ c.in-err-bytes.was (err_from_is_err_and c.from-residual.result c.from-residual.ensures.1) c.take.ensures.reads
+returns-in_err-bytes c =
+    go_out _ c.in_err-bytes.was (err_from_is_err_and c.from_residual.result c.from_residual.ensures.1) c.take.ensures.reads
 
-pub returns-in-err-depth : goal.returns-in-err-depth
+pub returns-in_err-depth : goal.returns-in_err-depth
 unfolding a_clear
-returns-in-err-depth c =
-    go_on _ c.in-ok-bytes.was c.take.ensures.reads
-    (go_out _ c.in-err-depth.was (err_from_is_err_and c.from-residual-in-err-depth.result c.from-residual-in-err-depth.ensures.1) c.word.ensures.reads)
+returns-in_err-depth c =
+    go_on _ c.in_ok-bytes.was c.take.ensures.reads
+    (go_out _ c.in_err-depth.was (err_from_is_err_and c.from_residual-in_err-depth.result c.from_residual-in_err-depth.ensures.1) c.word.ensures.reads)
 
 pub returns : goal.returns
 unfolding a_clear
 returns c =
-    go_on _ c.in-ok-bytes.was c.take.ensures.reads
-    (go_on _ c.in-ok-depth.was c.word.ensures.reads
-    (record { same = refl; is = rw (three c.in-ok-bytes.bytes.now c.in-ok-bytes.ensures.long) refl }))
+    go_on _ c.in_ok-bytes.was c.take.ensures.reads
+    (go_on _ c.in_ok-depth.was c.word.ensures.reads
+    (record { same = refl; is = rw (three c.in_ok-bytes.bytes.now c.in_ok-bytes.ensures.long) refl }))

@@ -8,72 +8,72 @@ use Rattle.codec.proofs.Chains.{some_on, some_out, then_on, then_out, found_befo
 use Rattle.codec.proofs.Places.{end_more, end_all}
 use Rattle.codec.proofs.reader.Reader.file.Goals as goal
 
-pub returns-in-err-mark : goal.returns-in-err-mark
+pub returns-in_err-mark : goal.returns-in_err-mark
 unfolding a_file
-returns-in-err-mark c =
-    some_out _ c.in-err-mark.was (err_from_is_err_and c.from-residual.result c.from-residual.ensures.1) c.mark.ensures
+returns-in_err-mark c =
+    some_out _ c.in_err-mark.was (err_from_is_err_and c.from_residual.result c.from_residual.ensures.1) c.mark.ensures
 
-pub returns-in-err-width : goal.returns-in-err-width
+pub returns-in_err-width : goal.returns-in_err-width
 unfolding a_file
-returns-in-err-width c =
-    some_on _ c.in-ok-mark.was c.mark.ensures
-    (some_out _ c.in-err-width.was (err_from_is_err_and c.from-residual-in-err-width.result c.from-residual-in-err-width.ensures.1) c.word.ensures.reads)
+returns-in_err-width c =
+    some_on _ c.in_ok-mark.was c.mark.ensures
+    (some_out _ c.in_err-width.was (err_from_is_err_and c.from_residual-in_err-width.result c.from_residual-in_err-width.ensures.1) c.word.ensures.reads)
 
-pub returns-in-err-height : goal.returns-in-err-height
+pub returns-in_err-height : goal.returns-in_err-height
 unfolding a_file
-returns-in-err-height c =
-    some_on _ c.in-ok-mark.was c.mark.ensures
-    (some_on _ c.in-ok-width.was c.word.ensures.reads
-    (some_out _ c.in-err-height.was (err_from_is_err_and c.from-residual-in-err-height.result c.from-residual-in-err-height.ensures.1) c.word-2.ensures.reads))
+returns-in_err-height c =
+    some_on _ c.in_ok-mark.was c.mark.ensures
+    (some_on _ c.in_ok-width.was c.word.ensures.reads
+    (some_out _ c.in_err-height.was (err_from_is_err_and c.from_residual-in_err-height.result c.from_residual-in_err-height.ensures.1) c.word-2.ensures.reads))
 
-pub returns-in-err-textures : goal.returns-in-err-textures
+pub returns-in_err-textures : goal.returns-in_err-textures
 unfolding a_file
-returns-in-err-textures c =
-    some_on _ c.in-ok-mark.was c.mark.ensures
-    (some_on _ c.in-ok-width.was c.word.ensures.reads
-    (some_on _ c.in-ok-height.was c.word-2.ensures.reads
-    (some_out _ c.in-err-textures.was (err_from_is_err_and c.from-residual-in-err-textures.result c.from-residual-in-err-textures.ensures.1) c.byte.ensures.reads)))
+returns-in_err-textures c =
+    some_on _ c.in_ok-mark.was c.mark.ensures
+    (some_on _ c.in_ok-width.was c.word.ensures.reads
+    (some_on _ c.in_ok-height.was c.word-2.ensures.reads
+    (some_out _ c.in_err-textures.was (err_from_is_err_and c.from_residual-in_err-textures.result c.from_residual-in_err-textures.ensures.1) c.byte.ensures.reads)))
 
-pub returns-in-err-textures-2 : goal.returns-in-err-textures-2
+pub returns-in_err-textures-2 : goal.returns-in_err-textures-2
 unfolding a_file
-returns-in-err-textures-2 c =
-    some_on _ c.in-ok-mark.was c.mark.ensures
-    (some_on _ c.in-ok-width.was c.word.ensures.reads
-    (some_on _ c.in-ok-height.was c.word-2.ensures.reads
-    (some_on _ c.in-ok-textures.was c.byte.ensures.reads
-    (then_out _ c.in-err-textures-2.was (err_from_is_err_and c.from-residual-in-err-textures-2.result c.from-residual-in-err-textures-2.ensures.1) c.textures.ensures))))
+returns-in_err-textures-2 c =
+    some_on _ c.in_ok-mark.was c.mark.ensures
+    (some_on _ c.in_ok-width.was c.word.ensures.reads
+    (some_on _ c.in_ok-height.was c.word-2.ensures.reads
+    (some_on _ c.in_ok-textures.was c.byte.ensures.reads
+    (then_out _ c.in_err-textures-2.was (err_from_is_err_and c.from_residual-in_err-textures-2.result c.from_residual-in_err-textures-2.ensures.1) c.textures.ensures))))
 
-pub returns-in-err-commands : goal.returns-in-err-commands
+pub returns-in_err-commands : goal.returns-in_err-commands
 unfolding a_file
-returns-in-err-commands c =
-    some_on _ c.in-ok-mark.was c.mark.ensures
-    (some_on _ c.in-ok-width.was c.word.ensures.reads
-    (some_on _ c.in-ok-height.was c.word-2.ensures.reads
-    (some_on _ c.in-ok-textures.was c.byte.ensures.reads
-    (then_on _ c.in-ok-textures-2.was c.textures.ensures
-    (λ ts long-ts read-ts. some_out _ c.in-err-commands.was (err_from_is_err_and c.from-residual-in-err-commands.result c.from-residual-in-err-commands.ensures.1) c.word-3.ensures.reads)))))
+returns-in_err-commands c =
+    some_on _ c.in_ok-mark.was c.mark.ensures
+    (some_on _ c.in_ok-width.was c.word.ensures.reads
+    (some_on _ c.in_ok-height.was c.word-2.ensures.reads
+    (some_on _ c.in_ok-textures.was c.byte.ensures.reads
+    (then_on _ c.in_ok-textures-2.was c.textures.ensures
+    (λ ts long-ts read-ts. some_out _ c.in_err-commands.was (err_from_is_err_and c.from_residual-in_err-commands.result c.from_residual-in_err-commands.ensures.1) c.word-3.ensures.reads)))))
 
-pub returns-in-err-commands-2 : goal.returns-in-err-commands-2
+pub returns-in_err-commands-2 : goal.returns-in_err-commands-2
 unfolding a_file
-returns-in-err-commands-2 c =
-    some_on _ c.in-ok-mark.was c.mark.ensures
-    (some_on _ c.in-ok-width.was c.word.ensures.reads
-    (some_on _ c.in-ok-height.was c.word-2.ensures.reads
-    (some_on _ c.in-ok-textures.was c.byte.ensures.reads
-    (then_on _ c.in-ok-textures-2.was c.textures.ensures
-    (λ ts long-ts read-ts. some_on _ c.in-ok-commands.was c.word-3.ensures.reads
-    (then_out _ c.in-err-commands-2.was (err_from_is_err_and c.from-residual-in-err-commands-2.result c.from-residual-in-err-commands-2.ensures.1) c.commands.ensures))))))
+returns-in_err-commands-2 c =
+    some_on _ c.in_ok-mark.was c.mark.ensures
+    (some_on _ c.in_ok-width.was c.word.ensures.reads
+    (some_on _ c.in_ok-height.was c.word-2.ensures.reads
+    (some_on _ c.in_ok-textures.was c.byte.ensures.reads
+    (then_on _ c.in_ok-textures-2.was c.textures.ensures
+    (λ ts long-ts read-ts. some_on _ c.in_ok-commands.was c.word-3.ensures.reads
+    (then_out _ c.in_err-commands-2.was (err_from_is_err_and c.from_residual-in_err-commands-2.result c.from_residual-in_err-commands-2.ensures.1) c.commands.ensures))))))
 
 pub returns-then-self : goal.returns-then-self
 unfolding a_file
 returns-then-self c =
-    some_on _ c.in-ok-mark.was c.mark.ensures
-    (some_on _ c.in-ok-width.was c.word.ensures.reads
-    (some_on _ c.in-ok-height.was c.word-2.ensures.reads
-    (some_on _ c.in-ok-textures.was c.byte.ensures.reads
-    (then_on _ c.in-ok-textures-2.was c.textures.ensures
-    (λ ts long-ts read-ts. some_on _ c.in-ok-commands.was c.word-3.ensures.reads
-    (then_on _ c.in-ok-commands-2.was c.commands.ensures
+    some_on _ c.in_ok-mark.was c.mark.ensures
+    (some_on _ c.in_ok-width.was c.word.ensures.reads
+    (some_on _ c.in_ok-height.was c.word-2.ensures.reads
+    (some_on _ c.in_ok-textures.was c.byte.ensures.reads
+    (then_on _ c.in_ok-textures-2.was c.textures.ensures
+    (λ ts long-ts read-ts. some_on _ c.in_ok-commands.was c.word-3.ensures.reads
+    (then_on _ c.in_ok-commands-2.was c.commands.ensures
     (λ cs long-cs read-cs. record { same = refl; is = end_more _ _ _ c.if-self.true })))))))
 
 pub returns : goal.returns
@@ -81,14 +81,14 @@ unfolding a_file
 returns c =
     let s1 = c.byte.ensures.reads.same ∙ c.word-2.ensures.reads.same ∙ c.word.ensures.reads.same ∙ c.mark.ensures.same in
     let s2 = c.word-3.ensures.reads.same ∙ c.textures.ensures.same ∙ s1 in
-    let m : Summary = record { size = record { width = c.in-ok-width.width; height = c.in-ok-height.height }; textures = c.in-ok-textures.textures; images = c.byte.new.self.at; commands = c.in-ok-commands.commands; start = c.word-3.new.self.at } in
-    some_on _ c.in-ok-mark.was c.mark.ensures
-    (some_on _ c.in-ok-width.was c.word.ensures.reads
-    (some_on _ c.in-ok-height.was c.word-2.ensures.reads
-    (some_on _ c.in-ok-textures.was c.byte.ensures.reads
-    (then_on _ c.in-ok-textures-2.was c.textures.ensures
-    (λ ts long-ts read-ts. some_on _ c.in-ok-commands.was c.word-3.ensures.reads
-    (then_on _ c.in-ok-commands-2.was c.commands.ensures
+    let m : Summary = record { size = record { width = c.in_ok-width.width; height = c.in_ok-height.height }; textures = c.in_ok-textures.textures; images = c.byte.new.self.at; commands = c.in_ok-commands.commands; start = c.word-3.new.self.at } in
+    some_on _ c.in_ok-mark.was c.mark.ensures
+    (some_on _ c.in_ok-width.was c.word.ensures.reads
+    (some_on _ c.in_ok-height.was c.word-2.ensures.reads
+    (some_on _ c.in_ok-textures.was c.byte.ensures.reads
+    (then_on _ c.in_ok-textures-2.was c.textures.ensures
+    (λ ts long-ts read-ts. some_on _ c.in_ok-commands.was c.word-3.ensures.reads
+    (then_on _ c.in_ok-commands-2.was c.commands.ensures
     (λ cs long-cs read-cs. record {
       same = refl;
       is = (

@@ -15,16 +15,16 @@ is_known Clear = refl
 is_known Triangles = refl
 is_known Show = refl
 
-pub returns-in-err-bytes : goal.returns-in-err-bytes
-returns-in-err-bytes c =
-    judge_out 1 c.take.ensures.reads 4 as_it_is known c.in-err-bytes.was (err_from_is_err_and c.from-residual.result c.from-residual.ensures.1)
+pub returns-in_err-bytes : goal.returns-in_err-bytes
+returns-in_err-bytes c =
+    judge_out 1 c.take.ensures.reads 4 as_it_is known c.in_err-bytes.was (err_from_is_err_and c.from_residual.result c.from_residual.ensures.1)
 
 pub returns-in-Some : goal.returns-in-Some
 returns-in-Some c =
-    let v = value_one c.in-ok-bytes.bytes.now c.in-ok-bytes.ensures.long in
-    judge_good 1 c.take.ensures.reads 4 as_it_is known c.in-ok-bytes.was c.in-Some.kind (v ∙ sym c.in-Some.ensures) (is_known c.in-Some.kind)
+    let v = value_one c.in_ok-bytes.bytes.now c.in_ok-bytes.ensures.long in
+    judge_good 1 c.take.ensures.reads 4 as_it_is known c.in_ok-bytes.was c.in-Some.kind (v ∙ sym c.in-Some.ensures) (is_known c.in-Some.kind)
 
 pub returns-in-None : goal.returns-in-None
 returns-in-None c =
-    let v = value_one c.in-ok-bytes.bytes.now c.in-ok-bytes.ensures.long in
-    judge_bad 1 c.take.ensures.reads 4 as_it_is known c.in-ok-bytes.was _ refl refl (ap known v ∙ c.in-None.ensures)
+    let v = value_one c.in_ok-bytes.bytes.now c.in_ok-bytes.ensures.long in
+    judge_bad 1 c.take.ensures.reads 4 as_it_is known c.in_ok-bytes.was _ refl refl (ap known v ∙ c.in-None.ensures)

@@ -21,47 +21,47 @@ mix_back Replace = refl
 mix_back Blend = refl
 mix_back Add = refl
 
-pub returns-in-err-test : goal.returns-in-err-test
+pub returns-in_err-test : goal.returns-in_err-test
 unfolding a_pen
-returns-in-err-test c =
-    go_out _ c.in-err-test.was (err_from_is_err_and c.from-residual.result c.from-residual.ensures.1) c.test.ensures
+returns-in_err-test c =
+    go_out _ c.in_err-test.was (err_from_is_err_and c.from_residual.result c.from_residual.ensures.1) c.test.ensures
 
-pub returns-in-err-keeps : goal.returns-in-err-keeps
+pub returns-in_err-keeps : goal.returns-in_err-keeps
 unfolding a_pen
-returns-in-err-keeps c =
-    go_on _ c.in-ok-test.was c.test.ensures
-    (go_out _ c.in-err-keeps.was (err_from_is_err_and c.from-residual-in-err-keeps.result c.from-residual-in-err-keeps.ensures.1) c.byte.ensures.reads)
+returns-in_err-keeps c =
+    go_on _ c.in_ok-test.was c.test.ensures
+    (go_out _ c.in_err-keeps.was (err_from_is_err_and c.from_residual-in_err-keeps.result c.from_residual-in_err-keeps.ensures.1) c.byte.ensures.reads)
 
-pub returns-in-err-mix : goal.returns-in-err-mix
+pub returns-in_err-mix : goal.returns-in_err-mix
 unfolding a_pen
-returns-in-err-mix c =
-    go_on _ c.in-ok-test.was c.test.ensures
-    (go_on _ c.in-ok-keeps.was c.byte.ensures.reads
-    (go_out _ c.in-err-mix.was (err_from_is_err_and c.from-residual-in-err-mix.result c.from-residual-in-err-mix.ensures.1) c.mix.ensures))
+returns-in_err-mix c =
+    go_on _ c.in_ok-test.was c.test.ensures
+    (go_on _ c.in_ok-keeps.was c.byte.ensures.reads
+    (go_out _ c.in_err-mix.was (err_from_is_err_and c.from_residual-in_err-mix.result c.from_residual-in_err-mix.ensures.1) c.mix.ensures))
 
-pub returns-in-err-texture : goal.returns-in-err-texture
+pub returns-in_err-texture : goal.returns-in_err-texture
 unfolding a_pen
-returns-in-err-texture c =
-    go_on _ c.in-ok-test.was c.test.ensures
-    (go_on _ c.in-ok-keeps.was c.byte.ensures.reads
-    (go_on _ c.in-ok-mix.was c.mix.ensures
-    (go_out _ c.in-err-texture.was (err_from_is_err_and c.from-residual-in-err-texture.result c.from-residual-in-err-texture.ensures.1) c.byte-2.ensures.reads)))
+returns-in_err-texture c =
+    go_on _ c.in_ok-test.was c.test.ensures
+    (go_on _ c.in_ok-keeps.was c.byte.ensures.reads
+    (go_on _ c.in_ok-mix.was c.mix.ensures
+    (go_out _ c.in_err-texture.was (err_from_is_err_and c.from_residual-in_err-texture.result c.from_residual-in_err-texture.ensures.1) c.byte-2.ensures.reads)))
 
-pub returns-in-err-frame : goal.returns-in-err-frame
+pub returns-in_err-frame : goal.returns-in_err-frame
 unfolding a_pen
-returns-in-err-frame c =
-    go_on _ c.in-ok-test.was c.test.ensures
-    (go_on _ c.in-ok-keeps.was c.byte.ensures.reads
-    (go_on _ c.in-ok-mix.was c.mix.ensures
-    (go_on _ c.in-ok-texture.was c.byte-2.ensures.reads
-    (go_out _ c.in-err-frame.was (err_from_is_err_and c.from-residual-in-err-frame.result c.from-residual-in-err-frame.ensures.1) c.frame.ensures))))
+returns-in_err-frame c =
+    go_on _ c.in_ok-test.was c.test.ensures
+    (go_on _ c.in_ok-keeps.was c.byte.ensures.reads
+    (go_on _ c.in_ok-mix.was c.mix.ensures
+    (go_on _ c.in_ok-texture.was c.byte-2.ensures.reads
+    (go_out _ c.in_err-frame.was (err_from_is_err_and c.from_residual-in_err-frame.result c.from_residual-in_err-frame.ensures.1) c.frame.ensures))))
 
 pub returns : goal.returns
 unfolding a_pen
 returns c =
-    go_on _ c.in-ok-test.was c.test.ensures
-    (go_on _ c.in-ok-keeps.was c.byte.ensures.reads
-    (go_on _ c.in-ok-mix.was c.mix.ensures
-    (go_on _ c.in-ok-texture.was c.byte-2.ensures.reads
-    (go_on _ c.in-ok-frame.was c.frame.ensures
-    (record { same = refl; is = rw (test_back c.in-ok-test.test, mix_back c.in-ok-mix.mix) refl })))))
+    go_on _ c.in_ok-test.was c.test.ensures
+    (go_on _ c.in_ok-keeps.was c.byte.ensures.reads
+    (go_on _ c.in_ok-mix.was c.mix.ensures
+    (go_on _ c.in_ok-texture.was c.byte-2.ensures.reads
+    (go_on _ c.in_ok-frame.was c.frame.ensures
+    (record { same = refl; is = rw (test_back c.in_ok-test.test, mix_back c.in_ok-mix.mix) refl })))))

@@ -5,20 +5,20 @@ use Rattle.codec.specs.Judged.{a_place}
 use Rattle.codec.proofs.Chains.{go_on, go_out}
 use Rattle.codec.proofs.reader.Reader.place.Goals as goal
 
-pub returns-in-err-x : goal.returns-in-err-x
+pub returns-in_err-x : goal.returns-in_err-x
 unfolding a_place
-returns-in-err-x c =
-    go_out _ c.in-err-x.was (err_from_is_err_and c.from-residual.result c.from-residual.ensures.1) c.whole.ensures
+returns-in_err-x c =
+    go_out _ c.in_err-x.was (err_from_is_err_and c.from_residual.result c.from_residual.ensures.1) c.whole.ensures
 
-pub returns-in-err-y : goal.returns-in-err-y
+pub returns-in_err-y : goal.returns-in_err-y
 unfolding a_place
-returns-in-err-y c =
-    go_on _ c.in-ok-x.was c.whole.ensures
-    (go_out _ c.in-err-y.was (err_from_is_err_and c.from-residual-in-err-y.result c.from-residual-in-err-y.ensures.1) c.whole-2.ensures)
+returns-in_err-y c =
+    go_on _ c.in_ok-x.was c.whole.ensures
+    (go_out _ c.in_err-y.was (err_from_is_err_and c.from_residual-in_err-y.result c.from_residual-in_err-y.ensures.1) c.whole-2.ensures)
 
 pub returns : goal.returns
 unfolding a_place
 returns c =
-    go_on _ c.in-ok-x.was c.whole.ensures
-    (go_on _ c.in-ok-y.was c.whole-2.ensures
-    (record { same = refl; is = rw (to_z-of_z w32 c.in-ok-x.x (search rules), to_z-of_z w32 c.in-ok-y.y (search rules)) refl }))
+    go_on _ c.in_ok-x.was c.whole.ensures
+    (go_on _ c.in_ok-y.was c.whole-2.ensures
+    (record { same = refl; is = rw (to_z-of_z w32 c.in_ok-x.x (search rules), to_z-of_z w32 c.in_ok-y.y (search rules)) refl }))

@@ -1,19 +1,19 @@
-use Rattle.std.proofs.Common.{◌≡◌, refl, ◌∙◌, arith}
+use Rattle.std.proofs.Common.{refl, ◌∙◌, arith}
 use Rattle.std.proofs.lemmas.Result.{err_from_is_err_and}
-use Rattle.codec.proofs.Loops.{Loop, loop_start, loop_more, loop_stop, loop_end}
+use Rattle.codec.proofs.Loops.{loop_start, loop_more, loop_stop, loop_end}
 use Rattle.codec.proofs.reader.Reader.textures.Goals as goal
 
 pub loop-init : goal.loop-init
 loop-init c = loop_start _ _ _
 
-pub returns-in-err-texture : goal.returns-in-err-texture
-returns-in-err-texture c =
-    let d = err_from_is_err_and c.from-residual.result c.from-residual.ensures.1 in
-    let e = loop_stop c.loop.invariant c.texture.ensures c.loop-test.true c.in-err-texture.was in
+pub returns-in_err-texture : goal.returns-in_err-texture
+returns-in_err-texture c =
+    let d = err_from_is_err_and c.from_residual.result c.from_residual.ensures.1 in
+    let e = loop_stop c.loop.invariant c.texture.ensures c.loop-test.true c.in_err-texture.was in
     record { same = c.texture.ensures.same ∙ c.loop.invariant.same; is = rw (d.1, d.2, e) refl }
 
 pub loop-preserved : goal.loop-preserved
-loop-preserved c = loop_more c.loop.invariant c.texture.ensures c.loop-test.true c.in-ok-texture.was
+loop-preserved c = loop_more c.loop.invariant c.texture.ensures c.loop-test.true c.in_ok-texture.was
 
 pub returns : goal.returns
 returns c =

@@ -6,14 +6,14 @@ use Rattle.codec.proofs.reader.Reader.triangles.Goals as goal
 pub loop-init : goal.loop-init
 loop-init c = loop_start _ _ _
 
-pub returns-in-err-triangle : goal.returns-in-err-triangle
-returns-in-err-triangle c =
-    let d = err_from_is_err_and c.from-residual.result c.from-residual.ensures.1 in
-    let e = loop_stop c.loop.invariant c.triangle.ensures c.loop-test.true c.in-err-triangle.was in
+pub returns-in_err-triangle : goal.returns-in_err-triangle
+returns-in_err-triangle c =
+    let d = err_from_is_err_and c.from_residual.result c.from_residual.ensures.1 in
+    let e = loop_stop c.loop.invariant c.triangle.ensures c.loop-test.true c.in_err-triangle.was in
     record { same = c.triangle.ensures.same ∙ c.loop.invariant.same; is = rw (d.1, d.2, e) refl }
 
 pub loop-preserved : goal.loop-preserved
-loop-preserved c = loop_more c.loop.invariant c.triangle.ensures c.loop-test.true c.in-ok-triangle.was
+loop-preserved c = loop_more c.loop.invariant c.triangle.ensures c.loop-test.true c.in_ok-triangle.was
 
 pub returns : goal.returns
 returns c =

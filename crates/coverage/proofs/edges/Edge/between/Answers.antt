@@ -14,22 +14,22 @@ times r a b fa fb fr e =
     let f : SFits w64 (pos 256 *ℤ r) = omega (arith, ints) in
     simp to_z-of_z (ap (λ (z : ℤ). pos 256 *ℤ z) p)
 
-pub returns-then-is-owner : goal.returns-then-is-owner
-returns-then-is-owner c =
+pub returns-then-is_owner : goal.returns-then-is_owner
+returns-then-is_owner c =
     let p = c.args.p in
     let q = c.args.q in
     record {
       across = times c.difference.result p.y q.y (search rules) (search rules) (search rules) c.difference.ensures.value;
       down = times c.difference-2.result q.x p.x (search rules) (search rules) (search rules) c.difference-2.ensures.value;
-      least = sym (cond-true _ _ _ (sym c.if-is-owner.ensures));
+      least = sym (cond-true _ _ _ (sym c.if-is_owner.ensures));
     }
 
-pub returns-else-is-owner : goal.returns-else-is-owner
-returns-else-is-owner c =
+pub returns-else-is_owner : goal.returns-else-is_owner
+returns-else-is_owner c =
     let p = c.args.p in
     let q = c.args.q in
     record {
       across = times c.difference.result p.y q.y (search rules) (search rules) (search rules) c.difference.ensures.value;
       down = times c.difference-2.result q.x p.x (search rules) (search rules) (search rules) c.difference-2.ensures.value;
-      least = sym (cond-false _ _ _ (sym c.if-is-owner.ensures));
+      least = sym (cond-false _ _ _ (sym c.if-is_owner.ensures));
     }

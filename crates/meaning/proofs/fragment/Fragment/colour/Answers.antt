@@ -1,4 +1,3 @@
-use Rattle.std.proofs.Common.{◌≡◌}
 use Rattle.meaning.specs.Textures.{image_if}
 use Rattle.meaning.proofs.Painting.{brought_0, brought_1, brought_2, brought_3}
 use Rattle.meaning.proofs.fragment.Fragment.colour.Goals as goal

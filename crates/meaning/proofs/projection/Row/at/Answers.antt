@@ -1,19 +1,19 @@
-use Rattle.std.proofs.Common.{◌≡◌, ◌^◌, ◌<◌, ℤ, pos, ◌+ℤ◌, ◌*ℤ◌, ◌∙◌, arith, w32, rules}
+use Rattle.std.proofs.Common.{◌≡◌, ◌^◌, ◌<◌, pos, ◌+ℤ◌, ◌*ℤ◌, arith, w32, rules}
 use lib.Signed.{mag}
 use Rattle.fixed_point.proofs.Bounds.{plain_mul}
 use Rattle.fixed_point.specs.Whole.{down}
 use Rattle.meaning.specs.Meaning.{along}
-use Rattle.meaning.proofs.Rows.{Sums, sums, floor_is, narrow_64}
+use Rattle.meaning.proofs.Rows.{sums, floor_is, narrow_64}
 use Rattle.meaning.proofs.projection.Row.at.Goals as goal
 
-pub overflow-add-sum : goal.overflow-add-sum
-overflow-add-sum c = (sums c.term.result c.term-2.result (pos 0) (pos 0) c.term.ensures.bound c.term-2.ensures.bound (omega arith) (omega arith)).two
+pub overflow_add-sum : goal.overflow_add-sum
+overflow_add-sum c = (sums c.term.result c.term-2.result (pos 0) (pos 0) c.term.ensures.bound c.term-2.ensures.bound (omega arith) (omega arith)).two
 
-pub overflow-add-sum-2 : goal.overflow-add-sum-2
-overflow-add-sum-2 c = (sums c.term.result c.term-2.result c.term-3.result (pos 0) c.term.ensures.bound c.term-2.ensures.bound c.term-3.ensures.bound (omega arith)).three
+pub overflow_add-sum-2 : goal.overflow_add-sum-2
+overflow_add-sum-2 c = (sums c.term.result c.term-2.result c.term-3.result (pos 0) c.term.ensures.bound c.term-2.ensures.bound c.term-3.ensures.bound (omega arith)).three
 
-pub overflow-add-sum-3 : goal.overflow-add-sum-3
-overflow-add-sum-3 c =
+pub overflow_add-sum-3 : goal.overflow_add-sum-3
+overflow_add-sum-3 c =
     (sums c.term.result c.term-2.result c.term-3.result c.term-4.result c.term.ensures.bound c.term-2.ensures.bound c.term-3.ensures.bound c.term-4.ensures.bound).four
 
 whole : (c : goal.After-floor) →
@@ -23,8 +23,8 @@ whole c =
     (sums c.term.result c.term-2.result c.term-3.result c.term-4.result c.term.ensures.bound c.term-2.ensures.bound c.term-3.ensures.bound c.term-4.ensures.bound)
     c.floor.ensures
 
-pub overflow-cast-result : goal.overflow-cast-result
-overflow-cast-result c = (narrow_64 c.floor.result (whole c).1).0
+pub overflow_cast-result : goal.overflow_cast-result
+overflow_cast-result c = (narrow_64 c.floor.result (whole c).1).0
 
 pub returns : goal.returns
 unfolding along

@@ -14,10 +14,10 @@ use Rattle.setup.proofs.Tasks.{tasks_pen, tasks_look, tasks_clear, tasks_show}
 use Rattle.reference.specs.Changes.{Changes}
 use Rattle.reference.proofs.Steps.{through_pen, through_look, through_clear, through_show}
 use Rattle.reference.proofs.Drawing.{through_triangles}
-use Rattle.maker.specs.declared.tile.Context.{Context}
+use Rattle.maker.specs.declared.tiles.Context.{Context}
 use Rattle.maker.specs.Tiles.{Waiting, Midway}
 use Rattle.maker.proofs.Waiting.{waiting_on, waiting_now, waiting_room, waiting_then}
-use Rattle.maker.proofs.tile.obey.Goals as goal
+use Rattle.maker.proofs.tiles.obey.Goals as goal
 
 -- the instruction that a command stands for
 abbrev Stands : Command → Instruction → Type 0
@@ -86,13 +86,13 @@ returns-in-Clear c =
             v,
             waiting_on a.work.now x x v v (clear c.in-Clear.colour c.in-Clear.depth) left (tasks_clear x.pen v left c.in-Clear.colour c.in-Clear.depth) (omega arith) refl (rw is at w),
             through_clear (pictured a.file.now a.summary) a.summary.size cs (in_frame a.tile) C D S left x.pen v x.shown a.colours.now a.depths.now a.shown.now
-                (in_frame c.meet-frame.result) c.in-Clear.colour c.in-Clear.depth c.clear-box.new.colours c.clear-box.new.depths (search rules)
-                c.meet-frame.ensures.is c.clear-box.ensures.colours c.clear-box.ensures.depths (rw is at o),
+                (in_frame c.meet-frame.result) c.in-Clear.colour c.in-Clear.depth c.clear_box.new.colours c.clear_box.new.depths (search rules)
+                c.meet-frame.ensures.is c.clear_box.ensures.colours c.clear_box.ensures.depths (rw is at o),
           );
     }
 
-pub paint-triangles-requires : goal.paint-triangles-requires
-paint-triangles-requires c =
+pub paint_triangles-requires : goal.paint_triangles-requires
+paint_triangles-requires c =
     let a = c.args in
     let x = a.context in
     let q = c.requires.expected in
@@ -119,12 +119,12 @@ returns-in-Triangles c =
           let w' : Waiting a.work.now x v (triangles z.0 ∷ left) = subst (λ (i : Instruction). Waiting a.work.now x v (i ∷ left)) z.1 w in
           let o' : Midway ts a.summary.size cs a.tile C D S (triangles z.0 ∷ left) x v a.colours.now a.depths.now a.shown.now =
           subst (λ (i : Instruction). Midway ts a.summary.size cs a.tile C D S (i ∷ left) x v a.colours.now a.depths.now a.shown.now) z.1 o in
-          let d : Changes a.summary.size.width (in_frame a.tile) (all_three (image ts x.pen.texture) x.pen v z.0) a.colours.now a.depths.now c.paint-triangles.new.colours c.paint-triangles.new.depths =
-          subst (λ (t : Option Image). Changes a.summary.size.width (in_frame a.tile) (all_three t x.pen v z.0) a.colours.now a.depths.now c.paint-triangles.new.colours c.paint-triangles.new.depths)
-          c.texture-texture.ensures (c.paint-triangles.ensures v z.0 z.2 (waiting_now a.work.now x v z.0 left w')) in (
+          let d : Changes a.summary.size.width (in_frame a.tile) (all_three (image ts x.pen.texture) x.pen v z.0) a.colours.now a.depths.now c.paint_triangles.new.colours c.paint_triangles.new.depths =
+          subst (λ (t : Option Image). Changes a.summary.size.width (in_frame a.tile) (all_three t x.pen v z.0) a.colours.now a.depths.now c.paint_triangles.new.colours c.paint_triangles.new.depths)
+          c.texture-texture.ensures (c.paint_triangles.ensures v z.0 z.2 (waiting_now a.work.now x v z.0 left w')) in (
             v,
             waiting_then a.work.now x v z.0 left w' _ refl (omega (arith, c.from.ensures, z.2)),
-            through_triangles ts a.summary.size cs (in_frame a.tile) C D S left x.pen v x.shown a.colours.now a.depths.now a.shown.now z.0 c.paint-triangles.new.colours c.paint-triangles.new.depths d o',
+            through_triangles ts a.summary.size cs (in_frame a.tile) C D S left x.pen v x.shown a.colours.now a.depths.now a.shown.now z.0 c.paint_triangles.new.colours c.paint_triangles.new.depths d o',
           );
     }
 
@@ -139,6 +139,6 @@ returns-in-Show c =
           let is : next ≡ show = said next a.command Show e c.in-Show.is in (
             v,
             waiting_on a.work.now x _ v v show left (tasks_show x.pen v left) (omega arith) refl (rw is at w),
-            through_show (pictured a.file.now a.summary) a.summary.size cs (in_frame a.tile) C D S left x.pen v x.shown a.colours.now a.depths.now a.shown.now c.show-box.new.shown c.show-box.ensures (rw is at o),
+            through_show (pictured a.file.now a.summary) a.summary.size cs (in_frame a.tile) C D S left x.pen v x.shown a.colours.now a.depths.now a.shown.now c.show_box.new.shown c.show_box.ensures (rw is at o),
           );
     }

@@ -11,9 +11,9 @@ use Rattle.codec.specs.Walk.{pictured, listed}
 use Rattle.codec.proofs.Walks.{ahead_next, ahead_more, ahead_none, amid_all, amid_passed, corners_many, total_more}
 use Rattle.reference.specs.Boxes.{Colours, Depths}
 use Rattle.reference.proofs.Steps.{through_start, through_end, room_for}
-use Rattle.maker.specs.declared.tile.Context.{Context}
+use Rattle.maker.specs.declared.tiles.Context.{Context}
 use Rattle.maker.specs.Tiles.{Equipped, Waiting, Midway}
-use Rattle.maker.proofs.tile.paint_tile.Goals as goal
+use Rattle.maker.proofs.tiles.paint_tile.Goals as goal
 
 -- before the first command
 start : (ts : List Image) (s : Size) (cs : List Instruction) (f : Frame) (b : State) (next : ℕ) (C D S C' D' : List ℕ) → b ≡ begin s →
@@ -35,8 +35,8 @@ pass-requires c =
     let a = c.args in
     let v = c.loop.invariant.1 in
     let m = ahead_more a.file.now a.summary c.loop.counter c.loop.reader v.0 v.1 c.loop-test.true c.next-command.result c.next-command.new.reader c.next-command.ensures in
-    amid_all a.file.now a.summary (c.loop.counter + 1) c.next-command.new.reader m.more (λ k. (c.type-inv.file k).fits) c.triangles-of.result (corners_of m.next)
-    (corners_many m.next ∙ ap triangles_in m.head ∙ sym c.triangles-of.ensures) m.amid
+    amid_all a.file.now a.summary (c.loop.counter + 1) c.next-command.new.reader m.more (λ k. (c.type_inv.file k).fits) c.triangles_of.result (corners_of m.next)
+    (corners_many m.next ∙ ap triangles_in m.head ∙ sym c.triangles_of.ensures) m.amid
 
 pub obey-context-requires : goal.obey-context-requires
 obey-context-requires c =
@@ -51,7 +51,7 @@ obey-context-requires c =
     let e : shows v.0 ≡ counts c.next-command.result + shows m.more =
     total_more a.file.now a.summary c.loop.counter c.loop.reader v.0 v.1 c.loop-test.true counts c.next-command.result c.next-command.new.reader m in
     let o = v.2 a.colours.now a.depths.now a.shown.now (waiting a.file.now a.summary a.base a.work.now b.result b.ensures c.requires.equipped)
-    (start ts s cs a.tile b.result a.base a.colours.now a.depths.now a.shown.now c.clear-box.new.colours c.clear-box.new.depths b.ensures c.clear-box.ensures.colours c.clear-box.ensures.depths) in
+    (start ts s cs a.tile b.result a.base a.colours.now a.depths.now a.shown.now c.clear_box.new.colours c.clear_box.new.depths b.ensures c.clear_box.ensures.colours c.clear_box.ensures.depths) in
     record {
       there = c.requires.there;
       expected = (m.next, m.more, o.0, m.head, subst (λ (l : List Instruction). Waiting a.work.now x o.0 l) m.both o.1);
@@ -72,8 +72,8 @@ loop-preserved c =
       omega (arith, c.obey-context.ensures.few),
       (
         m.more,
-        amid_passed a.file.now a.summary (c.loop.counter + 1) c.next-command.new.reader m.more (λ k. (c.type-inv.file k).fits) c.triangles-of.result (corners_of m.next)
-            (corners_many m.next ∙ ap triangles_in m.head ∙ sym c.triangles-of.ensures) m.amid c.pass.new.reader c.pass.ensures,
+        amid_passed a.file.now a.summary (c.loop.counter + 1) c.next-command.new.reader m.more (λ k. (c.type_inv.file k).fits) c.triangles_of.result (corners_of m.next)
+            (corners_many m.next ∙ ap triangles_in m.head ∙ sym c.triangles_of.ensures) m.amid c.pass.new.reader c.pass.ensures,
         λ C D S w o.
             let d = v.2 C D S w o in
             c.obey-context.ensures.obeyed cs m.more m.next d.0 C D S m.head (subst (λ (l : List Instruction). Waiting a.work.now c.loop.context d.0 l) m.both d.1)
@@ -92,6 +92,6 @@ returns c =
     let b = c.begin-begin in
     let e : v.0 ≡ [] = ahead_none a.file.now a.summary c.loop.counter c.loop.reader v.0 v.1 c.loop-test.false in
     let o = v.2 a.colours.now a.depths.now a.shown.now (waiting a.file.now a.summary a.base a.work.now b.result b.ensures c.requires.equipped)
-    (start ts s cs a.tile b.result a.base a.colours.now a.depths.now a.shown.now c.clear-box.new.colours c.clear-box.new.depths b.ensures c.clear-box.ensures.colours c.clear-box.ensures.depths) in
+    (start ts s cs a.tile b.result a.base a.colours.now a.depths.now a.shown.now c.clear_box.new.colours c.clear_box.new.depths b.ensures c.clear_box.ensures.colours c.clear_box.ensures.depths) in
     through_end ts s cs (in_frame a.tile) a.colours.now a.depths.now a.shown.now [] x.pen o.0 x.shown c.loop.colours c.loop.depths c.loop.shown
     (subst (λ (l : List Instruction). Midway ts s cs a.tile a.colours.now a.depths.now a.shown.now l x o.0 c.loop.colours c.loop.depths c.loop.shown) e o.2)

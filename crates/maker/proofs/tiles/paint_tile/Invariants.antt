@@ -3,7 +3,7 @@ use Rattle.meaning.specs.declared.projection.View.{View}
 use Rattle.meaning.specs.Meaning.{Instruction, begin}
 use Rattle.codec.specs.Walk.{Ahead, pictured, listed}
 use Rattle.maker.specs.Tiles.{Waiting, Midway}
-use Rattle.maker.proofs.tile.paint_tile.Given as goal
+use Rattle.maker.proofs.tiles.paint_tile.Given as goal
 
 abbrev pub invariant-loop : goal.invariant-loop
 invariant-loop l =
