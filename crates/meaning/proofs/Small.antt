@@ -16,7 +16,7 @@ use Rattle.meaning.specs.declared.projection.Row.{Row}
 use Rattle.meaning.specs.declared.projection.View.{View}
 use Rattle.meaning.specs.declared.pen.Pen.{Pen}
 use Rattle.meaning.specs.declared.state.Size.{Size}
-use Rattle.meaning.specs.Meaning.{Image, along, in_bounds, projected, depth_of, point_x, point_y, point_of, edge, turns, covers, blended, depth_at, colour_at, image, texel, middle}
+use Rattle.meaning.specs.Meaning.{Image, along, in_bounds, projected, depth_of, point_x, point_y, point_of, edge, turns, covers, blended, colour_at, image, texel, middle}
 use Rattle.meaning.specs.Fits.{Bytes, PlaceFits, CornerFits, RowFits, ViewFits, ImageFits, PenFits}
 use Rattle.meaning.specs.Bounds.{Small, SumsSmall, RowSmall, PointSmall, PointFits, EdgeSmall, BlendSmall, TextureFits, TexelSmall, BroughtSmall, MixedSmall, NoNumberTooLarge}
 use Rattle.meaning.proofs.Depths.{blended_near}
