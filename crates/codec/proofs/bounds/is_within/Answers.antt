@@ -26,12 +26,12 @@ module _ (m : ℕ) (a n b : ℤ) (f : SFits w32 a) (h : m < 2 ^ 32) (e : n ≡ t
 pub returns-then-bound-number : goal.returns-then-bound-number
 unfolding within
 returns-then-bound-number c =
-    let l = below c.args.bound c.args.number c.from_number.result c.from-bound.result c.ranges.number c.ranges.bound.fits c.from_number.ensures c.from-bound.ensures in
-    above c.args.bound c.args.number c.from_number.result c.from-bound.result c.ranges.number c.ranges.bound.fits c.from_number.ensures c.from-bound.ensures
+    let l = below c.args.bound c.args.number c.from-number.result c.from-bound.result c.ranges.number c.ranges.bound.fits c.from-number.ensures c.from-bound.ensures in
+    above c.args.bound c.args.number c.from-number.result c.from-bound.result c.ranges.number c.ranges.bound.fits c.from-number.ensures c.from-bound.ensures
     ∙ rw (sym l ∙ c.if-bound-number.true)
 
 pub returns-else-bound-number : goal.returns-else-bound-number
 unfolding within
 returns-else-bound-number c =
-    let l = below c.args.bound c.args.number c.from_number.result c.from-bound.result c.ranges.number c.ranges.bound.fits c.from_number.ensures c.from-bound.ensures in
+    let l = below c.args.bound c.args.number c.from-number.result c.from-bound.result c.ranges.number c.ranges.bound.fits c.from-number.ensures c.from-bound.ensures in
     c.if-bound-number.false ∙ rw (sym l ∙ c.if-bound-number.false)

@@ -28,12 +28,12 @@ pub returns-in-Clear : goal.returns-in-Clear
 unfolding command_bytes
 returns-in-Clear c = search rules
 
-pub returns-in_ok-push_triangles : goal.returns-in_ok-push_triangles
-returns-in_ok-push_triangles c =
-    behind (vec_items c.args.out.now) _ _ c.in_ok-push.ensures.items
-    (behind (vec_items c.push.new.self) _ _ c.in_ok-push_word.ensures c.in_ok-push_triangles.ensures)
+pub returns-in_ok-push_triangles-in-Triangles : goal.returns-in_ok-push_triangles-in-Triangles
+returns-in_ok-push_triangles-in-Triangles c =
+    behind (vec_items c.args.out.now) _ _ c.in_ok-push-in-Triangles.ensures.items
+    (behind (vec_items c.push.new.self) _ _ c.in_ok-push_word-in-Triangles.ensures c.in_ok-push_triangles-in-Triangles.ensures)
     ∙ ap (λ (l : List ℕ). vec_items c.args.out.now ++ l) (all_taken c.args.command c.in-Triangles.many c.args.triangles.now c.in-Triangles.is c.requires)
 
-pub returns-in_ok-push-2 : goal.returns-in_ok-push-2
+pub returns-in_ok-push-in-Show : goal.returns-in_ok-push-in-Show
 unfolding command_bytes
-returns-in_ok-push-2 c = search rules
+returns-in_ok-push-in-Show c = search rules

@@ -8,41 +8,41 @@ pub returns-in_err-kind : goal.returns-in_err-kind
 unfolding a_head
 returns-in_err-kind c = go_out _ c.in_err-kind.was (err_from_is_err_and c.from_residual.result c.from_residual.ensures.1) c.kind.ensures
 
-pub returns-in_err-pen : goal.returns-in_err-pen
+pub returns-in_err-pen-in-Pen : goal.returns-in_err-pen-in-Pen
 unfolding a_head of_kind
-returns-in_err-pen c =
+returns-in_err-pen-in-Pen c =
     go_on _ (c.in_ok-kind.was ∙ ap Ok c.in-Pen.is) c.kind.ensures
-    (go_out _ c.in_err-pen.was (err_from_is_err_and c.from_residual-in_err-pen.result c.from_residual-in_err-pen.ensures.1) c.pen.ensures)
+    (go_out _ c.in_err-pen-in-Pen.was (err_from_is_err_and c.from_residual-in_err-pen-in-Pen.result c.from_residual-in_err-pen-in-Pen.ensures.1) c.pen.ensures)
 
-pub returns-in_ok-pen : goal.returns-in_ok-pen
+pub returns-in_ok-pen-in-Pen : goal.returns-in_ok-pen-in-Pen
 unfolding a_head of_kind
-returns-in_ok-pen c =
+returns-in_ok-pen-in-Pen c =
     go_on _ (c.in_ok-kind.was ∙ ap Ok c.in-Pen.is) c.kind.ensures
-    (go_on _ c.in_ok-pen.was c.pen.ensures (record { same = refl; is = refl }))
+    (go_on _ c.in_ok-pen-in-Pen.was c.pen.ensures (record { same = refl; is = refl }))
 
-pub returns-in_err-view : goal.returns-in_err-view
+pub returns-in_err-view-in-Look : goal.returns-in_err-view-in-Look
 unfolding a_head of_kind
-returns-in_err-view c =
+returns-in_err-view-in-Look c =
     go_on _ (c.in_ok-kind.was ∙ ap Ok c.in-Look.is) c.kind.ensures
-    (go_out _ c.in_err-view.was (err_from_is_err_and c.from_residual-in_err-view.result c.from_residual-in_err-view.ensures.1) c.view.ensures)
+    (go_out _ c.in_err-view-in-Look.was (err_from_is_err_and c.from_residual-in_err-view-in-Look.result c.from_residual-in_err-view-in-Look.ensures.1) c.view.ensures)
 
-pub returns-in_ok-view : goal.returns-in_ok-view
+pub returns-in_ok-view-in-Look : goal.returns-in_ok-view-in-Look
 unfolding a_head of_kind
-returns-in_ok-view c =
+returns-in_ok-view-in-Look c =
     go_on _ (c.in_ok-kind.was ∙ ap Ok c.in-Look.is) c.kind.ensures
-    (go_on _ c.in_ok-view.was c.view.ensures (record { same = refl; is = refl }))
+    (go_on _ c.in_ok-view-in-Look.was c.view.ensures (record { same = refl; is = refl }))
 
-pub returns-in_err-many : goal.returns-in_err-many
+pub returns-in_err-many-in-Triangles : goal.returns-in_err-many-in-Triangles
 unfolding a_head of_kind
-returns-in_err-many c =
+returns-in_err-many-in-Triangles c =
     go_on _ (c.in_ok-kind.was ∙ ap Ok c.in-Triangles.is) c.kind.ensures
-    (go_out _ c.in_err-many.was (err_from_is_err_and c.from_residual-in_err-many.result c.from_residual-in_err-many.ensures.1) c.word.ensures.reads)
+    (go_out _ c.in_err-many-in-Triangles.was (err_from_is_err_and c.from_residual-in_err-many-in-Triangles.result c.from_residual-in_err-many-in-Triangles.ensures.1) c.word.ensures.reads)
 
-pub returns-in_ok-many : goal.returns-in_ok-many
+pub returns-in_ok-many-in-Triangles : goal.returns-in_ok-many-in-Triangles
 unfolding a_head of_kind
-returns-in_ok-many c =
+returns-in_ok-many-in-Triangles c =
     go_on _ (c.in_ok-kind.was ∙ ap Ok c.in-Triangles.is) c.kind.ensures
-    (go_on _ c.in_ok-many.was c.word.ensures.reads (record { same = refl; is = refl }))
+    (go_on _ c.in_ok-many-in-Triangles.was c.word.ensures.reads (record { same = refl; is = refl }))
 
 pub returns-in-Clear : goal.returns-in-Clear
 unfolding a_head of_kind
