@@ -35,13 +35,13 @@ returns c =
     let e = c.place_of-place.ensures in
     let was : c.dot_at.result ≡ dot_of w C D a.i a.j = c.dot_at.ensures ∙ ap (spot C D) e in
     let inside : covers f.a f.b f.c (middle a.i a.j) ≡ true = (and_parts _ _ (subst (λ (m : Place). holds f.a f.b f.c m ≡ true) c.requires.place f.covered)).1 in
-    let is : c.paint_dot.result ≡ if_covered t a.pen f.a f.b f.c (middle a.i a.j) (dot_of w C D a.i a.j) =
-    c.paint_dot.ensures ∙ (λ n. painted t a.pen f.a f.b f.c (c.requires.place n) (was n)) ∙ sym (cond-true (covers f.a f.b f.c (middle a.i a.j)) _ _ inside) in
+    let is : c.paint-dot.result ≡ if_covered t a.pen f.a f.b f.c (middle a.i a.j) (dot_of w C D a.i a.j) =
+    c.paint-dot.ensures ∙ (λ n. painted t a.pen f.a f.b f.c (c.requires.place n) (was n)) ∙ sym (cond-true (covers f.a f.b f.c (middle a.i a.j)) _ _ inside) in
     record {
-      colours = dot_colours w a.i a.j c.requires.across (λ i j k. get_or (if_covered t a.pen f.a f.b f.c (middle i j) (dot_of w C D i j)).colour k 0) c.paint_dot.result.colour C c.put_dot_lem.new.colours
-          (λ k. ap (λ (d : Dot). get_or d.colour k 0) is) (rw e at c.put_dot_lem.ensures.colours);
+      colours = dot_colours w a.i a.j c.requires.across (λ i j k. get_or (if_covered t a.pen f.a f.b f.c (middle i j) (dot_of w C D i j)).colour k 0) c.paint-dot.result.colour C c.put_dot.new.colours
+          (λ k. ap (λ (d : Dot). get_or d.colour k 0) is) (rw e at c.put_dot.ensures.colours);
       depths =
-          rw (c.put_dot_lem.ensures.depths, e)
-          (dot_depths w a.i a.j c.requires.across (λ i j. (if_covered t a.pen f.a f.b f.c (middle i j) (dot_of w C D i j)).depth) c.paint_dot.result.depth D (ap (λ (d : Dot). d.depth) is)
+          rw (c.put_dot.ensures.depths, e)
+          (dot_depths w a.i a.j c.requires.across (λ i j. (if_covered t a.pen f.a f.b f.c (middle i j) (dot_of w C D i j)).depth) c.paint-dot.result.depth D (ap (λ (d : Dot). d.depth) is)
           (omega (arith, row_below w a.j a.size.height c.requires.down)));
     }

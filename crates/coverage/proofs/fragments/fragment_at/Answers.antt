@@ -48,10 +48,10 @@ pub invariant_of-weights : goal.invariant_of-weights
 invariant_of-weights c =
     let w = share c.args.triangle c.args.i c.args.j c.middle_of.result c.args.sides _ _ _ _ c.middle_of.ensures c.requires.sound c.requires.seen c.requires.covered c.requires.whole
     (search rules) (search rules) (search rules) (search rules) (search rules) (search rules) (omega arith) (omega arith) (omega arith) in
-    (w.some, (w.sum, (w.small, tt)))
+    record { some = w.some; sum = w.sum; fits = w.small }
 
 pub invariant_of-result : goal.invariant_of-result
 invariant_of-result c =
     let w = share c.args.triangle c.args.i c.args.j c.middle_of.result c.args.sides _ _ _ _ c.middle_of.ensures c.requires.sound c.requires.seen c.requires.covered c.requires.whole
     (search rules) (search rules) (search rules) (search rules) (search rules) (search rules) (omega arith) (omega arith) (omega arith) in
-    (w.held, (w.a_is, (w.b_is, (w.c_is, (w.area_is, tt)))))
+    record { covered = w.held; first = w.a_is; second = w.b_is; third = w.c_is; whole = w.area_is }

@@ -24,7 +24,7 @@ all : (c : goal.After-side) → Narrow c.side.result (edge c.args.p c.args.q (mi
 all c = narrow _ _ _ _ _ _ c.requires.0 c.requires.1 c.ranges.i.fits c.ranges.j.fits c.middle_of.ensures (search rules) c.side.ensures.value
 
 pub overflow_cast-result : goal.overflow_cast-result
-overflow_cast-result c = (all c).ranges
+overflow_cast-result c = (all c).fits
 
 pub returns : goal.returns
 returns c = (all c).is
