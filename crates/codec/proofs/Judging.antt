@@ -7,8 +7,7 @@ use Rattle.std.proofs.lemmas.Int.{ints}
 use Rattle.codec.specs.declared.refusal.Refusal.{Refusal}
 use Rattle.codec.specs.declared.reader.Reader.{Reader}
 use Rattle.codec.specs.Refusals.{refusal_number, refusal_place}
-use Rattle.codec.specs.Judged as judged
-use Rattle.codec.specs.Judged.{Got, stop, got, bytes, value, twos, judge, number}
+use Rattle.codec.specs.Judged.{stop, got, bytes, value, twos, judge, number}
 use Rattle.codec.specs.Reader.{Reads, answer, left, as_bytes}
 use Rattle.codec.proofs.Places.{place_is}
 

@@ -1,6 +1,6 @@
 -- What a file says: a list of commands, or a refusal with its number and place. A file is read from front to back, and what is read first is judged first.
 -- Assumes nothing: these are definitions.
-use Rattle.std.specs.Prelude.{◌≡◌, ℕ, zero, suc, ◌+◌, ◌-◌, ◌*◌, ◌^◌, ◌<◌, Bool, true, false, cond, ◌&&◌, List, [], ◌∷◌, length, take, drop, ℤ, pos, ◌-ℤ◌, neg_ℤ, ◌==◌, int_le, int_lt, nat_le, nat_lt, slice_index}
+use Rattle.std.specs.Prelude.{◌≡◌, ℕ, zero, suc, ◌+◌, ◌-◌, ◌*◌, ◌^◌, ◌<◌, Bool, cond, ◌&&◌, List, [], ◌∷◌, length, take, drop, ℤ, pos, ◌-ℤ◌, neg_ℤ, ◌==◌, int_le, int_lt, nat_le, nat_lt, slice_index}
 use Rattle.meaning.specs.declared.geometry.Place.{Place}
 use Rattle.meaning.specs.declared.points.Corner.{Corner}
 use Rattle.meaning.specs.declared.projection.Row.{Row}

@@ -1,12 +1,11 @@
 -- The triangles of the commands that are left, from command to command.
 -- Assumes nothing.
-use Rattle.std.proofs.Common.{◌≡◌, ℕ, ◌+◌, ◌*◌, ◌<◌, ◌≤◌, List, [], ◌∷◌, ◌++◌, map, length, get_or, sym, refl, ap, ◌∙◌, subst, arith}
+use Rattle.std.proofs.Common.{◌≡◌, ℕ, ◌+◌, ◌*◌, ◌<◌, ◌≤◌, List, ◌∷◌, ◌++◌, map, length, get_or, sym, subst, arith}
 use Rattle.std.proofs.lemmas.List.{length-append, length-map, get_or_append_left}
 use Rattle.meaning.specs.declared.pen.Pen.{Pen}
 use Rattle.meaning.specs.declared.projection.View.{View}
-use Rattle.meaning.specs.Meaning.{Triple, Instruction, pen, look, clear, triangles, show}
+use Rattle.meaning.specs.Meaning.{Triple, Instruction, triangles}
 use Rattle.codec.specs.Shows.{total, triangle_count}
-use Rattle.setup.specs.declared.triangle.Triangle.{Triangle}
 use Rattle.setup.specs.Words.{triangle_of}
 use Rattle.setup.specs.Tasks.{Task, task, tasks, no_task, Does, Stored}
 use Rattle.setup.proofs.Tasks.{tasks_triangles, task_after}

@@ -5,7 +5,7 @@ use Rattle.std.proofs.lemmas.Bool.{le-ltb, or_from}
 use Rattle.meaning.specs.declared.state.Size.{Size}
 use Rattle.meaning.specs.Meaning.{Image, Instruction, shown}
 use Rattle.codec.specs.declared.refusal.Refusal.{Refusal}
-use Rattle.codec.specs.Judged.{Verdict, refused, taken, judged}
+use Rattle.codec.specs.Judged.{Verdict, taken, judged}
 use Rattle.codec.specs.Shows.{shows}
 use Rattle.codec.proofs.Files.{read_back}
 use Rattle.codec.specs.Walk.{pictured, listed}

@@ -1,6 +1,6 @@
 -- What a call leaves that is given a file and lent memory: the one promise of everything that makes pictures.
 -- Assumes nothing: these are definitions.
-use Rattle.std.specs.Prelude.{◌≡◌, ℕ, ◌+◌, ◌*◌, ◌≤◌, Bool, cond, ◌||◌, List, [], length, Ok, Err, Result, nat_lt}
+use Rattle.std.specs.Prelude.{◌≡◌, ℕ, ◌+◌, ◌*◌, ◌≤◌, cond, ◌||◌, List, [], length, Ok, Err, Result, nat_lt}
 use Rattle.meaning.specs.declared.state.Size.{Size}
 use Rattle.meaning.specs.Meaning.{Image, Instruction, shown}
 use Rattle.meaning.specs.Fits.{ListFits}

@@ -1,4 +1,4 @@
-use Rattle.std.proofs.Common.{arith, rules}
+use Rattle.std.proofs.Common.{rules}
 use Rattle.std.proofs.lemmas.Result.{err_from_is_err_and}
 use Rattle.reference.specs.Made.{Made}
 use Rattle.reference.proofs.Entering.{made_none, made_all, made_is_meant}

@@ -1,4 +1,4 @@
-use Rattle.std.proofs.Common.{◌≡◌, ℕ, List, length, Ok, Err, Result, sym, ap, subst}
+use Rattle.std.proofs.Common.{ℕ, List, length, Ok, Err, Result, sym, ap, subst}
 use Rattle.codec.specs.declared.refusal.Refusal.{Refusal}
 use Rattle.codec.specs.declared.summary.Summary.{Summary}
 use Rattle.codec.specs.Judged.{Verdict, verdict, a_file, judged}

@@ -1,5 +1,4 @@
-use Rattle.std.proofs.Common.{◌≡◌, ℕ, ◌+◌, ◌≤◌, List, sym, ap, ◌∙◌, arith}
-use Rattle.meaning.specs.Meaning.{Instruction}
+use Rattle.std.proofs.Common.{◌≡◌, ◌+◌, sym, ap, ◌∙◌, arith}
 use Rattle.meaning.specs.States.{corners_of}
 use Rattle.codec.specs.Shows.{counts, triangles_in, total, shows, triangle_count}
 use Rattle.codec.proofs.Walks.{ahead_next, ahead_more, ahead_none, amid_all, amid_passed, corners_many, total_more, total_none}

@@ -1,4 +1,4 @@
-use Rattle.std.proofs.Common.{◌≡◌, ℕ, ◌+◌, ◌*◌, ◌≤◌, List, ◌∷◌, length, Option, sym, refl, ap, ◌∙◌, subst, arith, rules}
+use Rattle.std.proofs.Common.{◌≡◌, ℕ, List, ◌∷◌, length, Option, refl, ◌∙◌, subst, arith, rules}
 use Rattle.meaning.specs.declared.command.Command.{Command}
 use Rattle.meaning.specs.declared.command.Command.TheVariants.{Pen, Look, Clear, Triangles, Show}
 use Rattle.meaning.specs.declared.pen.Frame.{Frame}
@@ -6,10 +6,8 @@ use Rattle.meaning.specs.declared.projection.View.{View}
 use Rattle.meaning.specs.declared.state.Size.{Size}
 use Rattle.meaning.specs.Meaning.{Image, Triple, Instruction, pen, look, clear, triangles, show, in_frame, all_three, image}
 use Rattle.meaning.specs.Numbers.{header}
-use Rattle.meaning.specs.Textures.{image_if}
 use Rattle.codec.specs.Shows.{total}
 use Rattle.codec.specs.Walk.{pictured}
-use Rattle.setup.specs.Tasks.{tasks}
 use Rattle.setup.proofs.Tasks.{tasks_pen, tasks_look, tasks_clear, tasks_show}
 use Rattle.reference.specs.Changes.{Changes}
 use Rattle.reference.proofs.Steps.{through_pen, through_look, through_clear, through_show}

@@ -1,6 +1,5 @@
-use Rattle.std.proofs.Common.{◌≡◌, ℕ, ◌+◌, List, [], ◌∷◌, get_or, sym, refl, ap, ◌∙◌, subst, arith, rules}
+use Rattle.std.proofs.Common.{◌≡◌, ℕ, ◌+◌, List, [], get_or, sym, ap, ◌∙◌, subst, arith, rules}
 use Rattle.meaning.specs.declared.pen.Frame.{Frame}
-use Rattle.meaning.specs.declared.projection.View.{View}
 use Rattle.meaning.specs.declared.state.Size.{Size}
 use Rattle.meaning.specs.declared.state.State.{State}
 use Rattle.meaning.specs.Meaning.{Image, Instruction, in_frame, begin}
@@ -11,7 +10,6 @@ use Rattle.codec.specs.Walk.{pictured, listed}
 use Rattle.codec.proofs.Walks.{ahead_next, ahead_more, ahead_none, amid_all, amid_passed, corners_many, total_more}
 use Rattle.reference.specs.Boxes.{Colours, Depths}
 use Rattle.reference.proofs.Steps.{through_start, through_end, room_for}
-use Rattle.maker.specs.declared.tiles.Context.{Context}
 use Rattle.maker.specs.Tiles.{Equipped, Waiting, Midway}
 use Rattle.maker.proofs.tiles.paint_tile.Goals as goal
 

@@ -1,7 +1,6 @@
-use Rattle.std.proofs.Common.{◌≡◌, ℕ, ◌+◌, ◌<◌, List, [], ◌∷◌, sym, ap, ◌∙◌, subst, arith}
+use Rattle.std.proofs.Common.{◌≡◌, ◌+◌, ◌<◌, List, [], ◌∷◌, sym, ap, ◌∙◌, subst, arith}
 use Rattle.meaning.specs.declared.state.State.{State}
 use Rattle.meaning.specs.Meaning.{Instruction, image, step}
-use Rattle.meaning.specs.Numbers.{header}
 use Rattle.meaning.specs.States.{obeyed, all_painting, corners_of}
 use Rattle.codec.specs.Shows.{counts, triangles_in, shows}
 use Rattle.codec.specs.Walk.{pictured, listed}

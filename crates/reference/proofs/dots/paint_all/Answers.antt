@@ -1,4 +1,4 @@
-use Rattle.std.proofs.Common.{◌≡◌, ◌+◌, Option, sym, ap, ◌∙◌, subst}
+use Rattle.std.proofs.Common.{◌+◌, Option, sym, ap, ◌∙◌, subst}
 use Rattle.meaning.specs.declared.state.State.{State}
 use Rattle.meaning.specs.Meaning.{Image}
 use Rattle.meaning.specs.States.{all_painting}

@@ -1,4 +1,4 @@
-use Rattle.std.proofs.Common.{◌≡◌, ap, ◌∙◌, arith}
+use Rattle.std.proofs.Common.{ap, ◌∙◌, arith}
 use Rattle.codec.specs.Judged.{Verdict}
 use Rattle.codec.specs.Walk.{pictured, listed}
 use Rattle.reference.specs.Made.{lent}

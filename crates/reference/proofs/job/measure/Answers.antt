@@ -1,4 +1,4 @@
-use Rattle.std.proofs.Common.{◌≡◌, ℕ, ◌+◌, ◌*◌, ◌<◌, ◌≤◌, List, get_or, sym, ap, ◌∙◌, mul-le-mul, arith}
+use Rattle.std.proofs.Common.{◌≡◌, ℕ, ◌*◌, ◌<◌, ◌≤◌, List, get_or, sym, ◌∙◌, mul-le-mul, arith}
 use Rattle.meaning.specs.Fits.{ListFits}
 use Rattle.codec.specs.declared.summary.Summary.{Summary}
 use Rattle.codec.specs.Judged.{judged, taken}

@@ -1,4 +1,4 @@
-use Rattle.std.proofs.Common.{◌≡◌, ◌+◌, ◌*◌, [], ◌++◌, map, sym, refl, ap, arith}
+use Rattle.std.proofs.Common.{[], ◌++◌, map, arith}
 use Rattle.setup.specs.Tasks.{task}
 use Rattle.setup.proofs.Storing.{stored_none, some_start, some_next, some_more, some_end}
 use Rattle.setup.proofs.all.set_up_some.Goals as goal

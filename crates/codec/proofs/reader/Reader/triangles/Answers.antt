@@ -1,6 +1,6 @@
-use Rattle.std.proofs.Common.{◌≡◌, refl, ◌∙◌, arith}
+use Rattle.std.proofs.Common.{refl, ◌∙◌, arith}
 use Rattle.std.proofs.lemmas.Result.{err_from_is_err_and}
-use Rattle.codec.proofs.Loops.{Loop, loop_start, loop_more, loop_stop, loop_end}
+use Rattle.codec.proofs.Loops.{loop_start, loop_more, loop_stop, loop_end}
 use Rattle.codec.proofs.reader.Reader.triangles.Goals as goal
 
 pub loop-init : goal.loop-init
