@@ -6,6 +6,7 @@ use codec::refusal::Refusal;
 use console::painter::Painter;
 use console::print::print_pictures;
 use std::io::Read;
+use std::process::ExitCode;
 use std::{env, fs};
 
 const HELP: &str =
@@ -61,14 +62,14 @@ fn run(rt: &HostRuntime) -> anyhow::Result<bool> {
     print_pictures(rt, &Meaning, &file, None)
 }
 
-// What went wrong was said, so an error only ends the program with status 1.
-fn main(rt: HostRuntime) -> anyhow::Result<()> {
+// What went wrong was said, and where no picture was made or no file written the status is 1.
+fn main(rt: HostRuntime) -> ExitCode {
     match run(&rt) {
-        Ok(true) => Ok(()),
-        Ok(false) => Err(anyhow!("nothing was printed")),
+        Ok(true) => ExitCode::SUCCESS,
+        Ok(false) => ExitCode::FAILURE,
         Err(error) => {
-            eprintln!(rt; "mean: {error}")?;
-            Err(error)
+            let _ = eprintln!(rt; "mean: {error}");
+            ExitCode::FAILURE
         }
     }
 }

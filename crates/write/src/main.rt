@@ -7,6 +7,7 @@ use crate::problem::Problem;
 use anyhow::anyhow;
 use codec::writer::{WriteError, write};
 use std::io::{Read, Write};
+use std::process::ExitCode;
 use std::{env, fs};
 
 mod draft;
@@ -100,13 +101,13 @@ fn run(rt: &HostRuntime) -> anyhow::Result<()> {
     make_file(rt, &draft, to.as_str())
 }
 
-// What went wrong was said, so an error only ends the program with status 1.
-fn main(rt: HostRuntime) -> anyhow::Result<()> {
+// What went wrong was said, and where no picture was made or no file written the status is 1.
+fn main(rt: HostRuntime) -> ExitCode {
     match run(&rt) {
-        Ok(()) => Ok(()),
+        Ok(()) => ExitCode::SUCCESS,
         Err(error) => {
-            eprintln!(rt; "write: {error}")?;
-            Err(error)
+            let _ = eprintln!(rt; "write: {error}");
+            ExitCode::FAILURE
         }
     }
 }
