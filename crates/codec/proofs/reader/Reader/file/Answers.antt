@@ -50,7 +50,7 @@ returns-in_err-commands c =
     (some_on _ c.in_ok-height.was c.word-2.ensures.reads
     (some_on _ c.in_ok-textures.was c.byte.ensures.reads
     (then_on _ c.in_ok-textures-2.was c.textures.ensures
-    (λ l4 h4 q4. some_out _ c.in_err-commands.was (err_from_is_err_and c.from_residual-in_err-commands.result c.from_residual-in_err-commands.ensures.1) c.word-3.ensures.reads)))))
+    (λ l4 h4 e4. some_out _ c.in_err-commands.was (err_from_is_err_and c.from_residual-in_err-commands.result c.from_residual-in_err-commands.ensures.1) c.word-3.ensures.reads)))))
 
 pub returns-in_err-commands-2 : goal.returns-in_err-commands-2
 unfolding a_file
@@ -60,7 +60,7 @@ returns-in_err-commands-2 c =
     (some_on _ c.in_ok-height.was c.word-2.ensures.reads
     (some_on _ c.in_ok-textures.was c.byte.ensures.reads
     (then_on _ c.in_ok-textures-2.was c.textures.ensures
-    (λ l4 h4 q4. some_on _ c.in_ok-commands.was c.word-3.ensures.reads
+    (λ l4 h4 e4. some_on _ c.in_ok-commands.was c.word-3.ensures.reads
     (then_out _ c.in_err-commands-2.was (err_from_is_err_and c.from_residual-in_err-commands-2.result c.from_residual-in_err-commands-2.ensures.1) c.commands.ensures))))))
 
 pub returns-then-self : goal.returns-then-self
@@ -71,9 +71,9 @@ returns-then-self c =
     (some_on _ c.in_ok-height.was c.word-2.ensures.reads
     (some_on _ c.in_ok-textures.was c.byte.ensures.reads
     (then_on _ c.in_ok-textures-2.was c.textures.ensures
-    (λ l4 h4 q4. some_on _ c.in_ok-commands.was c.word-3.ensures.reads
+    (λ l4 h4 e4. some_on _ c.in_ok-commands.was c.word-3.ensures.reads
     (then_on _ c.in_ok-commands-2.was c.commands.ensures
-    (λ l6 h6 q6. record { same = refl; is = end_more _ _ _ c.if-self.true })))))))
+    (λ l6 h6 e6. record { same = refl; is = end_more _ _ _ c.if-self.true })))))))
 
 pub returns : goal.returns
 unfolding a_file
@@ -85,6 +85,6 @@ returns c =
     (some_on _ c.in_ok-height.was c.word-2.ensures.reads
     (some_on _ c.in_ok-textures.was c.byte.ensures.reads
     (then_on _ c.in_ok-textures-2.was c.textures.ensures
-    (λ l4 h4 q4. some_on _ c.in_ok-commands.was c.word-3.ensures.reads
+    (λ l4 h4 e4. some_on _ c.in_ok-commands.was c.word-3.ensures.reads
     (then_on _ c.in_ok-commands-2.was c.commands.ensures
-    (λ l6 h6 q6. record { same = refl; is = (_, (l4, l6, refl, h4, h6, within_too c.word-3.new.self _ s, found_there (times m.commands (command m)) c.word-3.new.self c.commands.new.self _ l6 s c.if-self.false q6), end_all _ _ _ c.if-self.false) })))))))
+    (λ l6 h6 e6. record { same = refl; is = (_, (l4, l6, refl, h4, h6, within_too c.word-3.new.self _ s, found_there (times m.commands (command m)) c.word-3.new.self c.commands.new.self _ l6 s c.if-self.false e6), end_all _ _ _ c.if-self.false) })))))))
