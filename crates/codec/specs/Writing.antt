@@ -103,8 +103,8 @@ first_not ok k (x ∷ rest) = cond (ok x) (first_not ok (suc k) rest) (Some k)
 
 -- refused at the place that was found, or for what comes after
 abbrev pub refused_at : (ℕ → WriteError) → Option ℕ → Option WriteError → Option WriteError
-refused_at as-error None after = after
-refused_at as-error (Some k) after = Some (as-error k)
+refused_at as_error None after = after
+refused_at as_error (Some k) after = Some (as_error k)
 
 -- of the triangles: there are just as many as the commands have, and each is in bounds
 unfoldable pub triangles_refusal : List Command → List (List Corner) → Option WriteError

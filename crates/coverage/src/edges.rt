@@ -8,7 +8,7 @@ use setup::triangle::Triangle;
 
 // What the side of a dot's middle gains at the next dot of the row, and at the dot below. A middle is inside if its side is `least` or more: 0 if the edge owns the places on it, else 1.
 #[derive(Clone, Copy)]
-pub struct Edge {
+pub(crate) struct Edge {
     pub across: i64,
     pub down: i64,
     pub least: i64,
@@ -16,7 +16,7 @@ pub struct Edge {
 
 impl Edge {
     // The edge from p to q. It is 256 from one middle to the next, so no step is rounded.
-    pub fn between(p: Place, q: Place) -> Edge
+    pub(crate) fn between(p: Place, q: Place) -> Edge
         ensures { Steps p q result }
     {
         Edge {
@@ -27,14 +27,14 @@ impl Edge {
     }
 
     // Whether a middle on this side is inside.
-    pub fn is_inside(self, side: i64) -> bool
+    pub(crate) fn is_inside(self, side: i64) -> bool
         ensures { result ≡ int_le self.least side }
     {
         side >= self.least
     }
 
     // Whether it is outside, and with it all that follow in its row: none of them lies nearer.
-    pub fn is_past(self, side: i64) -> bool
+    pub(crate) fn is_past(self, side: i64) -> bool
         ensures { result ≡ past_one self side }
     {
         side < self.least && self.across <= 0
@@ -42,14 +42,14 @@ impl Edge {
 }
 
 #[derive(Clone, Copy)]
-pub struct Edges {
+pub(crate) struct Edges {
     pub ab: Edge,
     pub bc: Edge,
     pub ca: Edge,
 }
 
 impl Edges {
-    pub fn of(triangle: Triangle) -> Edges
+    pub(crate) fn of(triangle: Triangle) -> Edges
         ensures { EdgesOf triangle result }
     {
         Edges {

@@ -11,7 +11,7 @@ use setup::triangle::Triangle;
 
 // For each edge twice the area of its two ends and the middle of a dot, above 0 if the middle lies inside.
 #[derive(Clone, Copy)]
-pub struct Sides {
+pub(crate) struct Sides {
     pub ab: i64,
     pub bc: i64,
     pub ca: i64,
@@ -27,7 +27,7 @@ fn side_at(p: Place, q: Place, i: u16, j: u16) -> i64
 
 impl Sides {
     // The sides of dot (i, j).
-    pub fn at(triangle: Triangle, i: u16, j: u16) -> Sides
+    pub(crate) fn at(triangle: Triangle, i: u16, j: u16) -> Sides
         requires { Sound triangle }
         ensures { SeenFrom triangle (middle i j) result }
     {
@@ -39,7 +39,7 @@ impl Sides {
     }
 
     // The sides of the next dot of the row.
-    pub fn beside(self, edges: Edges) -> Sides
+    pub(crate) fn beside(self, edges: Edges) -> Sides
         requires { Fit (across_by edges self) }
         ensures { result ≡ across_by edges self }
     {
@@ -51,7 +51,7 @@ impl Sides {
     }
 
     // The sides of the dot below.
-    pub fn below(self, edges: Edges) -> Sides
+    pub(crate) fn below(self, edges: Edges) -> Sides
         requires { Fit (down_by edges self) }
         ensures { result ≡ down_by edges self }
     {
@@ -63,14 +63,14 @@ impl Sides {
     }
 
     // Whether the dot is covered.
-    pub fn are_inside(self, edges: Edges) -> bool
+    pub(crate) fn are_inside(self, edges: Edges) -> bool
         ensures { result ≡ within edges self }
     {
         edges.ab.is_inside(self.ab) && edges.bc.is_inside(self.bc) && edges.ca.is_inside(self.ca)
     }
 
     // Whether the dot is not covered, nor any that follows in its row.
-    pub fn are_past(self, edges: Edges) -> bool
+    pub(crate) fn are_past(self, edges: Edges) -> bool
         ensures { result ≡ past edges self }
     {
         edges.ab.is_past(self.ab) || edges.bc.is_past(self.bc) || edges.ca.is_past(self.ca)

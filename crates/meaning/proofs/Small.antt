@@ -1,6 +1,6 @@
 -- No number on the way passes 2^62.
 -- Assumes nothing.
-use Rattle.std.proofs.Common.{◌≡◌, ℕ, zero, suc, ◌+◌, ◌/◌, ◌^◌, ◌<◌, ◌≤◌, Bool, true, false, cond, List, [], ◌∷◌, length, get_or, ℤ, pos, ◌+ℤ◌, ◌-ℤ◌, ◌*ℤ◌, ◌<ℤ◌, Some, None, Option, sym, refl, ap, ◌∙◌, subst, suc-le-suc, le_trans, le_of_lt, mod-lt, mul-le-mul, sub-le, arith}
+use Rattle.std.proofs.Common.{◌≡◌, ℕ, zero, suc, ◌+◌, ◌/◌, ◌^◌, ◌<◌, ◌≤◌, Bool, true, false, cond, List, [], ◌∷◌, length, get_or, ℤ, pos, ◌+ℤ◌, ◌-ℤ◌, ◌*ℤ◌, ◌<ℤ◌, Some, None, Option, sym, ap, ◌∙◌, refl, subst, suc-le-suc, le_trans, le_of_lt, mod-lt, mul-le-mul, sub-le, arith}
 use native.Mathlib.Nat.{one-le-pow, pow-le-pow_right}
 use lib.Signed.{mag}
 use borrow.Author.Differences.{ints}
@@ -75,8 +75,8 @@ pub place_fits : (w : View) (c : Corner) (p : Point) → point_of w c ≡ Some p
 unfolding point_of
 place_fits w c p e =
     let s = if_some _ _ p e in
-    let in-it = and_parts _ _ (and_parts _ _ s.0).1 in
-    subst (λ (q : Point). PlaceFits q.at) s.1 (record { x = bounded _ in-it.0; y = bounded _ in-it.1 })
+    let inside = and_parts _ _ (and_parts _ _ s.0).1 in
+    subst (λ (q : Point). PlaceFits q.at) s.1 (record { x = bounded _ inside.0; y = bounded _ inside.1 })
 
 point_fits : (w : View) (c : Corner) (p : Point) → CornerFits c → point_of w c ≡ Some p → PointFits p
 unfolding point_of depth_of
@@ -145,9 +145,9 @@ texel_small t u v k h l =
     omega arith
 
 module _ (t : Option Image) (a b c : Point) (m : Place) (ft : TextureFits t) (fa : PointFits a) (fb : PointFits b) (fc : PointFits c)
-    (turn : pos 0 <ℤ turns a b c) (in-it : covers a b c m ≡ true) where
+    (turn : pos 0 <ℤ turns a b c) (inside : covers a b c m ≡ true) where
   near : (f g h n : ℕ) → f < suc n → g < suc n → h < suc n → blended a b c m f g h < suc n
-  near f g h n p q r = suc-le-suc (blended_near a b c m turn in-it f g h n (omega arith) (omega arith) (omega arith))
+  near f g h n p q r = suc-le-suc (blended_near a b c m turn inside f g h n (omega arith) (omega arith) (omega arith))
 
   colour_fits : (k : ℕ) → colour_at a b c m k < 256
   colour_fits k = near _ _ _ 255 (byte _ k fa.bytes) (byte _ k fb.bytes) (byte _ k fc.bytes)

@@ -1,13 +1,13 @@
 -- The dots of a row or a column between the least and the greatest of three coordinates.
 -- Assumes nothing.
-use Rattle.std.proofs.Common.{◌≡◌, ℕ, ◌<◌, ◌≤◌, min, max, Bool, ◌&&◌, ltb, ℤ, pos, ◌+ℤ◌, sym, ap, ◌∙◌, subst, arith, w32, SFits, to_z, of_z}
+use Rattle.std.proofs.Common.{◌≡◌, ℕ, ◌<◌, ◌≤◌, min, max, Bool, ◌&&◌, ltb, leb, ℤ, pos, ◌+ℤ◌, sym, ap, ◌∙◌, subst, arith, w32, SFits, to_z, of_z}
 use lib.Signed.{lt_z, le_z, mag}
 use Rattle.std.specs.Int.{int_min, int_max}
 use Rattle.std.proofs.lemmas.Int.{ints, to_z-of_z}
 use Rattle.std.proofs.lemmas.Bool.{cond_both}
 use Rattle.std.proofs.lemmas.Bool.Decides.{nat_tests}
 use Rattle.fixed_point.proofs.Bounds.{mag_of}
-use Rattle.setup.specs.Boxes.{from_to, between}
+use Rattle.setup.specs.Boxes.{between}
 
 -- a number by its bits and back, and the next one
 pub same_small : (x : ℤ) → mag x < 524288 → to_z w32 (of_z w32 x) ≡ x
@@ -49,13 +49,13 @@ greatest = of_three int_max (λ x y h g. cond_both (lt_z y x) x y (λ (z : ℤ).
 
 -- p dots have their middles before l, and q have them before g or on it
 within : (from to p q i : ℕ) (m l g : ℤ) → ltb i p ≡ lt_z m l → ltb i q ≡ lt_z m (g +ℤ pos 1) →
-    from_to (max from p) (min to q) i ≡ (from_to from to i && (le_z l m && le_z m g))
+    (leb (max from p) i && ltb i (min to q)) ≡ ((leb from i && ltb i to) && (le_z l m && le_z m g))
 within from to p q i m l g e f = grind (arith, ints, nat_tests)
 
 -- the same with the numbers that the code has
 module _ (from to p q u v : ℕ) (l g k h : ℤ) (el : l ≡ k) (eg : g ≡ h) (sl : mag l < 524288) (sg : mag g < 524288) (eu : u ≡ max from p) (ev : v ≡ min to q) where
   pub span_is : (i : ℕ) (m : ℤ) → ltb i p ≡ lt_z m (to_z w32 (of_z w32 l)) → ltb i q ≡ lt_z m (to_z w32 (of_z w32 (to_z w32 (of_z w32 g) +ℤ pos 1))) →
-      from_to u v i ≡ (from_to from to i && (le_z k m && le_z m h))
+      (leb u i && ltb i v) ≡ ((leb from i && ltb i to) && (le_z k m && le_z m h))
   span_is i m e f =
       let a = within from to p q i m l g (e ∙ ap (lt_z m) (same_small l sl)) (f ∙ ap (lt_z m) (next g sg).is) in
       cc

@@ -1,12 +1,8 @@
 -- The box of a triangle: the dots of a frame whose middles lie between its least and its greatest coordinates.
 -- Assumes nothing: these are definitions.
-use Rattle.std.specs.Prelude.{ℕ, Bool, ◌&&◌, ℤ, int_le, nat_le, nat_lt}
+use Rattle.std.specs.Prelude.{Bool, ◌&&◌, ℤ, int_le}
 use Rattle.std.specs.Int.{int_min, int_max}
 use Rattle.meaning.specs.declared.geometry.Place.{Place}
-
--- whether dot i lies from one on and before another
-abbrev pub from_to : ℕ → ℕ → ℕ → Bool
-from_to a b i = nat_le a i && nat_lt i b
 
 -- m is not before the least of three numbers nor behind the greatest
 abbrev pub between : ℤ → ℤ → ℤ → ℤ → Bool

@@ -1,9 +1,9 @@
 // The dots that a triangle can cover.
-ghost use Rattle.std.specs.Prelude.{◌≡◌, ℕ, ◌+◌, ◌*◌, ◌<◌, ◌≤◌, ◌&&◌, pos, int_lt, nat_lt};
+ghost use Rattle.std.specs.Prelude.{◌≡◌, ℕ, ◌+◌, ◌*◌, ◌<◌, ◌≤◌, ◌&&◌, pos, int_lt, nat_le, nat_lt};
 ghost use Rattle.std.specs.Int.Signed.{mag};
 ghost use Rattle.meaning.specs.Meaning.{in_frame, middle};
 ghost use Rattle.meaning.specs.Fits.{PlaceFits};
-ghost use Rattle.setup.specs.Boxes.{from_to, between, boxed};
+ghost use Rattle.setup.specs.Boxes.{between, boxed};
 
 use meaning::geometry::Place;
 use meaning::pen::Frame;
@@ -21,7 +21,7 @@ fn span(x: i32, y: i32, z: i32, from: u16, to: u16) -> (u16, u16)
     requires x { mag x < 524288 }
     requires y { mag y < 524288 }
     requires z { mag z < 524288 }
-    ensures { (i : ℕ) → from_to result.0 result.1 i ≡ (from_to from to i && between x y z (pos (256 * i + 128))) }
+    ensures { (i : ℕ) → (nat_le result.0 i && nat_lt i result.1) ≡ ((nat_le from i && nat_lt i to) && between x y z (pos (256 * i + 128))) }
 {
     let least = x.min(y).min(z);
     let greatest = x.max(y).max(z);
@@ -32,7 +32,7 @@ fn span(x: i32, y: i32, z: i32, from: u16, to: u16) -> (u16, u16)
 }
 
 // Of the dots of a frame those whose middles lie in the box of three places.
-pub fn bounds(a: Place, b: Place, c: Place, frame: Frame) -> Frame
+pub(crate) fn bounds(a: Place, b: Place, c: Place, frame: Frame) -> Frame
     requires a { PlaceFits a }
     requires b { PlaceFits b }
     requires c { PlaceFits c }

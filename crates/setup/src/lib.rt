@@ -2,7 +2,7 @@
 #![tactic(auto)]
 
 pub mod all;
-pub mod bounds;
+mod bounds;
 pub mod ready;
 pub mod triangle;
 pub mod words;

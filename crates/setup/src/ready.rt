@@ -22,7 +22,7 @@ const NOWHERE: Point = Point {
 
 impl Triangle {
     // One that paints nothing.
-    pub fn none() -> Triangle
+    fn none() -> Triangle
         ensures { result ≡ nothing }
     {
         Triangle {

@@ -1,6 +1,6 @@
-use Rattle.std.proofs.Common.{◌+◌, ◌*◌, pos}
+use Rattle.std.proofs.Common.{◌+◌, ◌*◌, ◌&&◌, ltb, leb, pos}
 use Rattle.meaning.specs.Meaning.{middle}
-use Rattle.setup.specs.Boxes.{from_to, between}
+use Rattle.setup.specs.Boxes.{between}
 use Rattle.setup.proofs.Spans.{spanned, crossed}
 use Rattle.setup.proofs.bounds.bounds.Goals as goal
 
@@ -14,6 +14,6 @@ returns c i j =
     let p = c.requires in
     let x = pos (256 * i + 128) in
     let y = pos (256 * j + 128) in
-    crossed _ _ (from_to f.left f.right i) (between a.x b.x d.x x) (from_to f.top f.bottom j) (between a.y b.y d.y y)
+    crossed _ _ (leb f.left i && ltb i f.right) (between a.x b.x d.x x) (leb f.top j && ltb j f.bottom) (between a.y b.y d.y y)
     (spanned _ _ a.x b.x d.x x p.a.x p.b.x p.c.x (c.span-left.ensures i))
     (spanned _ _ a.y b.y d.y y p.a.y p.b.y p.c.y (c.span-top.ensures j))
