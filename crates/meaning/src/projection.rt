@@ -6,7 +6,7 @@ ghost use Rattle.meaning.specs.Parts.{Sighted, Bounded};
 
 use crate::geometry::Place;
 use crate::points::{Corner, Point};
-use fixed_point::{floor, product, wide_quotient};
+use fixed_point::{floor, product, quotient};
 
 // One row of a view: three factors and an addend, in parts of 65,536.
 #[derive(Clone, Copy)]
@@ -59,7 +59,7 @@ fn in_sight(away: i64) -> Option<u32>
 }
 
 // A coordinate of a point, or nothing where it lies too far to the side.
-fn in_bounds(at: i128) -> Option<i32>
+fn bounded(at: i128) -> Option<i32>
     ensures { MatchOption result (in_bounds at ≡ false) (λ x. Bounded at x) }
 {
     if -524_288 <= at && at < 524_288 {
@@ -74,8 +74,8 @@ fn coordinate(middle: i32, z: i64, scale: u32, away: u32) -> Option<i32>
     requires { 0 < away }
     ensures { MatchOption result (in_bounds (projected middle z scale (pos away)) ≡ false) (λ x. Bounded (projected middle z scale (pos away)) x) }
 {
-    let moved = wide_quotient(product(z, i64::from(scale)), away)?;
-    in_bounds(i128::from(middle) + moved)
+    let moved = quotient(product(z, i64::from(scale)), away)?;
+    bounded(i128::from(middle) + moved)
 }
 
 impl View {

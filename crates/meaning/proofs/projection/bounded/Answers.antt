@@ -1,7 +1,7 @@
 use Rattle.std.proofs.Common.{arith}
 use Rattle.std.proofs.lemmas.Int.{ints}
 use Rattle.meaning.specs.Meaning.{in_bounds}
-use Rattle.meaning.proofs.projection.in_bounds.Goals as goal
+use Rattle.meaning.proofs.projection.bounded.Goals as goal
 
 pub returns-then-at-lt524288 : goal.returns-then-at-lt524288
 unfolding in_bounds
