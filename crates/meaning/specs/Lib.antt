@@ -1,4 +1,5 @@
 pub mod Meaning
+pub mod Codes
 pub mod Numbers
 pub mod Laws
 pub mod Parts
