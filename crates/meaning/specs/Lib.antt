@@ -4,6 +4,7 @@ pub mod Numbers
 pub mod Laws
 pub mod Parts
 pub mod Textures
+pub mod Triangles
 pub mod Weights
 pub mod Fragments
 pub mod States

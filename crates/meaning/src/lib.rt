@@ -1,6 +1,7 @@
 // What a list of drawing commands means for one dot.
 #![tactic(auto)]
 
+pub mod brush;
 pub mod code;
 pub mod command;
 pub mod examples;

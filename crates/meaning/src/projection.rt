@@ -2,10 +2,13 @@
 ghost use Rattle.std.specs.Prelude.{◌≡◌, ◌^◌, ◌<◌, ◌≤◌, false, pos, ◌*ℤ◌, MatchOption};
 ghost use Rattle.std.specs.Int.Signed.{mag};
 ghost use Rattle.meaning.specs.Meaning.{along, is_in_sight, in_bounds, projected, point_of};
+ghost use Rattle.meaning.specs.Fragments.{triple};
+ghost use Rattle.meaning.specs.Triangles.{triangle_seen};
 ghost use Rattle.meaning.specs.Parts.{Sighted, Bounded};
 
 use crate::geometry::Place;
 use crate::points::{Corner, Point};
+use crate::triangle::Triangle;
 use fixed_point::{floor, product, quotient};
 
 // One row of a view: three factors and an addend, in parts of 65,536.
@@ -94,6 +97,17 @@ impl View {
             u: corner.u,
             v: corner.v,
             colour,
+        })
+    }
+    // A triangle on the picture, or nothing where a corner is hidden.
+    pub fn triangle(self, corners: [Corner; 3]) -> Option<Triangle>
+        ensures { result ≡ triangle_seen self (triple corners) }
+    {
+        let [a, b, c] = corners;
+        Some(Triangle {
+            a: self.point(a)?,
+            b: self.point(b)?,
+            c: self.point(c)?,
         })
     }
 }

@@ -3,7 +3,7 @@ use lib.Signed.{mag}
 use mir.Syntax.{w128}
 use Rattle.std.proofs.lemmas.Int.{to_z-of_z}
 use Rattle.meaning.specs.Meaning.{turns}
-use Rattle.meaning.proofs.triangle.turn.Goals as goal
+use Rattle.meaning.proofs.triangle.Triangle.turn.Goals as goal
 
 pub returns : goal.returns
 unfolding turns

@@ -1,6 +1,6 @@
 use Rattle.std.proofs.Common.{arith}
 use Rattle.meaning.specs.Meaning.{covers}
-use Rattle.meaning.proofs.triangle.is_covered.Goals as goal
+use Rattle.meaning.proofs.triangle.Triangle.covers.Goals as goal
 
 pub returns-then-is_inside-2 : goal.returns-then-is_inside-2
 unfolding covers
