@@ -59,11 +59,8 @@ impl Fragment {
     pub fn depth(self) -> u16
         ensures { result ≡ depth_at self.triangle.a self.triangle.b self.triangle.c self.place }
     {
-        self.blend(
-            self.triangle.a.depth,
-            self.triangle.b.depth,
-            self.triangle.c.depth,
-        )
+        let Triangle { a, b, c } = self.triangle;
+        self.blend(a.depth, b.depth, c.depth)
     }
 
     // Part k of the colour between the corners.
@@ -71,9 +68,10 @@ impl Fragment {
         requires { k < 4 }
         ensures { result ≡ colour_at self.triangle.a self.triangle.b self.triangle.c self.place k }
     {
-        let f = u16::from(self.triangle.a.colour[k]);
-        let g = u16::from(self.triangle.b.colour[k]);
-        let h = u16::from(self.triangle.c.colour[k]);
+        let Triangle { a, b, c } = self.triangle;
+        let f = u16::from(a.colour[k]);
+        let g = u16::from(b.colour[k]);
+        let h = u16::from(c.colour[k]);
         self.blend(f, g, h) as u8
     }
 
@@ -81,8 +79,9 @@ impl Fragment {
     pub fn colour(self, texture: Option<Texture<'_>>) -> [u8; 4]
         ensures { result ≡ bringing (image_if texture.entry) self.triangle.a self.triangle.b self.triangle.c self.place }
     {
-        let u = self.blend(self.triangle.a.u, self.triangle.b.u, self.triangle.c.u);
-        let v = self.blend(self.triangle.a.v, self.triangle.b.v, self.triangle.c.v);
+        let Triangle { a, b, c } = self.triangle;
+        let u = self.blend(a.u, b.u, c.u);
+        let v = self.blend(a.v, b.v, c.v);
         let texel = sample(texture, u, v);
         [
             tint(self.part(0), texel[0]),
