@@ -6,4 +6,5 @@ pub mod Reader
 pub mod Verdicts
 pub mod Shows
 pub mod Walk
+pub mod Taken
 pub mod Writing
