@@ -8,7 +8,7 @@ use Rattle.meaning.specs.declared.pen.Pen.{Pen}
 use Rattle.meaning.specs.declared.state.Dot.{Dot}
 use Rattle.meaning.specs.Meaning.{Image, edge, inside, covers, middle, if_covered}
 use Rattle.meaning.specs.Fits.{PlaceFits}
-use Rattle.setup.specs.declared.triangle.Triangle.{Triangle}
+use Rattle.meaning.specs.declared.triangle.Triangle.{Triangle}
 use Rattle.coverage.specs.declared.outline.Outline.{Outline}
 use Rattle.coverage.specs.declared.sides.Sides.{Sides}
 use Rattle.coverage.specs.Steps.{across_gain, down_gain, least_side, past_one, Steps}
@@ -20,9 +20,9 @@ module _ (o : Outline) where
   pub seen_fit : (i j : ℕ) (s : Sides) → i ≤ 65536 → j ≤ 65536 → SeenFrom o.triangle (middle i j) s → Fit s
   seen_fit i j s hi hj x =
       record {
-        ab = small t.a.at t.b.at s.ab o.sound.a o.sound.b x.ab;
-        bc = small t.b.at t.c.at s.bc o.sound.b o.sound.c x.bc;
-        ca = small t.c.at t.a.at s.ca o.sound.c o.sound.a x.ca;
+        ab = small t.a.at t.b.at s.ab o.sound.placed.a o.sound.placed.b x.ab;
+        bc = small t.b.at t.c.at s.bc o.sound.placed.b o.sound.placed.c x.bc;
+        ca = small t.c.at t.a.at s.ca o.sound.placed.c o.sound.placed.a x.ca;
       }
     where
       t : Triangle

@@ -3,7 +3,7 @@
 use Rattle.std.specs.Prelude.{◌≡◌, Bool, cond, ◌&&◌, ℤ, pos, ◌-ℤ◌, ◌*ℤ◌, int_le, int_lt}
 use Rattle.meaning.specs.declared.geometry.Place.{Place}
 use Rattle.meaning.specs.Meaning.{owns}
-use Rattle.setup.specs.declared.triangle.Triangle.{Triangle}
+use Rattle.meaning.specs.declared.triangle.Triangle.{Triangle}
 use Rattle.coverage.specs.declared.sides.Sides.{Sides}
 
 -- what the side of a dot's middle for the edge from p to q gains at the next dot of the row, and at the dot below

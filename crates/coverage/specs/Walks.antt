@@ -7,7 +7,7 @@ use Rattle.meaning.specs.declared.pen.Pen.{Pen}
 use Rattle.meaning.specs.declared.state.Dot.{Dot}
 use Rattle.meaning.specs.Meaning.{Image, edge, middle, in_frame, if_covered}
 use Rattle.meaning.specs.Fits.{Within}
-use Rattle.setup.specs.declared.triangle.Triangle.{Triangle}
+use Rattle.meaning.specs.declared.triangle.Triangle.{Triangle}
 use Rattle.coverage.specs.declared.sides.Sides.{Sides}
 use Rattle.coverage.specs.Steps.{past_one}
 

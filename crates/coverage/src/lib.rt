@@ -9,10 +9,10 @@ ghost use Rattle.reference.specs.Changes.{Changes};
 
 use crate::dots::paint_dot;
 use crate::outline::Outline;
-use meaning::pen::{Frame, Pen};
+use meaning::brush::Brush;
+use meaning::pen::Frame;
 use meaning::state::Size;
-use meaning::texture::Texture;
-use setup::triangle::Triangle;
+use meaning::triangle::Triangle;
 
 mod dots;
 mod outline;
@@ -22,8 +22,7 @@ mod sides;
 pub fn cover(
     triangle: Triangle,
     frame: Frame,
-    pen: Pen,
-    texture: Option<Texture<'_>>,
+    brush: Brush<'_>,
     size: Size,
     colours: &mut [u8],
     depths: &mut [u16],
@@ -33,7 +32,7 @@ pub fn cover(
     requires bottom { frame.bottom ≤ size.height }
     requires colours { (size.height * size.width) * 3 ≤ length colours.old }
     requires depths { size.height * size.width ≤ length depths.old }
-    ensures { Changes size.width (in_frame frame) (λ i j d. if_covered (image_if texture.entry) pen triangle.a triangle.b triangle.c (middle i j) d) colours.old depths.old colours.new depths.new }
+    ensures { Changes size.width (in_frame frame) (λ i j d. if_covered (image_if brush.entry.texture) brush.entry.pen triangle.a triangle.b triangle.c (middle i j) d) colours.old depths.old colours.new depths.new }
 {
     let outline = Outline::of(triangle);
     let mut first = outline.sides_at(frame.left, frame.top);
@@ -44,7 +43,7 @@ pub fn cover(
         for i in frame.left..frame.right {
             if outline.holds(sides) {
                 let fragment = outline.fragment(sides, i, j);
-                paint_dot(fragment, pen, texture, size, i, j, colours, depths);
+                paint_dot(fragment, brush, size, i, j, colours, depths);
             } else if outline.is_passed(sides) {
                 continue 'rows;
             }

@@ -12,9 +12,8 @@ use crate::sides::Sides;
 use fixed_point::difference;
 use meaning::fragment::Fragment;
 use meaning::geometry::{Place, is_owner, middle_of, side};
-use meaning::triangle::turn;
+use meaning::triangle::Triangle;
 use meaning::weights::Weights;
-use setup::triangle::Triangle;
 
 // A triangle that goes round with the clock, twice its area, and what the sides of a dot's middle gain at the next dot of the row and at the dot below.
 // A middle is inside an edge if its side is `least` or more: 0 if the edge owns the places on it, else 1.
@@ -80,7 +79,7 @@ impl Outline {
     {
         Outline {
             triangle,
-            area: turn(triangle.a, triangle.b, triangle.c).unsigned_abs(),
+            area: triangle.turn().unsigned_abs(),
             across: Sides::of(triangle, across),
             down: Sides::of(triangle, down),
             least: Sides::of(triangle, least),
@@ -116,7 +115,7 @@ impl Outline {
     pub(crate) fn fragment(self, sides: Sides, i: u16, j: u16) -> Fragment
         requires seen { SeenFrom self.triangle (middle i j) sides }
         requires covered { covers self.triangle.a self.triangle.b self.triangle.c (middle i j) ≡ true }
-        ensures { Of self.triangle.a self.triangle.b self.triangle.c (middle i j) result }
+        ensures { Of self.triangle (middle i j) result }
     {
         let weights = Weights {
             a: u128::from(sides.bc.unsigned_abs()),
@@ -125,9 +124,7 @@ impl Outline {
             area: self.area,
         };
         Fragment {
-            a: self.triangle.a,
-            b: self.triangle.b,
-            c: self.triangle.c,
+            triangle: self.triangle,
             place: middle_of(i, j),
             weights,
         }

@@ -4,7 +4,7 @@ ghost use Rattle.meaning.specs.declared.geometry.Place.{Place};
 ghost use Rattle.coverage.specs.Walks.{Fit, plus};
 
 use meaning::geometry::Place;
-use setup::triangle::Triangle;
+use meaning::triangle::Triangle;
 
 // For each edge on which side of it a place lies: twice the area of its two ends and the place, above 0 inside. Or what that gains from dot to dot.
 #[derive(Clone, Copy)]
@@ -24,7 +24,7 @@ impl Sides {
         ensures bc { F.post f triangle.b.at triangle.c.at result.bc }
         ensures ca { F.post f triangle.c.at triangle.a.at result.ca }
     {
-        let Triangle { a, b, c, .. } = triangle;
+        let Triangle { a, b, c } = triangle;
         Sides {
             ab: f(a.at, b.at),
             bc: f(b.at, c.at),

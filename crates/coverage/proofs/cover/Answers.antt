@@ -10,7 +10,7 @@ use Rattle.coverage.proofs.cover.Goals.{then-holds, else-holds+else-is_passed}
 pub rows-init : goal.rows-init
 rows-init c =
     let a = c.args in
-    (c.sides_at-first.ensures, none_above a.size.width a.frame (painting (image_if a.texture) a.pen c.of-outline.result.triangle) a.colours.now a.depths.now)
+    (c.sides_at-first.ensures, none_above a.size.width a.frame (painting (image_if a.brush.texture) a.brush.pen c.of-outline.result.triangle) a.colours.now a.depths.now)
 
 pub plus-first-requires : goal.plus-first-requires
 plus-first-requires c =
@@ -24,7 +24,7 @@ plus-first-requires c =
 pub loop-i-init : goal.loop-i-init
 loop-i-init c =
     let a = c.args in
-    (c.rows.invariant.0, none_before a.size.width a.frame (painting (image_if a.texture) a.pen c.of-outline.result.triangle) c.rows.colours c.rows.depths c.rows.j)
+    (c.rows.invariant.0, none_before a.size.width a.frame (painting (image_if a.brush.texture) a.brush.pen c.of-outline.result.triangle) c.rows.colours c.rows.depths c.rows.j)
 
 pub fragment-fragment-requires : goal.fragment-fragment-requires
 fragment-fragment-requires c =
@@ -49,18 +49,18 @@ loop-i-preserved c =
     let i = c.loop-i.i in
     let j = c.rows.j in
     let s = c.loop-i.sides in
-    let g = painting (image_if a.texture) a.pen o.triangle in (
+    let g = painting (image_if a.brush.texture) a.brush.pen o.triangle in (
       subst (SeenFrom o.triangle (middle (i + 1) j)) (sym c.plus-sides.ensures) (seen_across o i j s c.loop-i.invariant.0),
       elim c.if-holds.branch [
         | then-holds w ↦
             let f = w.fragment-fragment.ensures in
             rw (w.colours-is, w.depths-is)
             (dot_more a.size.width a.frame g c.rows.colours c.rows.depths c.loop-i.colours c.loop-i.depths i j w.paint_dot.new.colours w.paint_dot.new.depths
-            c.loop-i.auto.i c.loop-i-test.true c.rows.auto.j c.rows-test.true c.loop-i.invariant.1 (simp (f.a_is, f.b_is, f.c_is) at w.paint_dot.ensures))
+            c.loop-i.auto.i c.loop-i-test.true c.rows.auto.j c.rows-test.true c.loop-i.invariant.1 (simp f.triangle_is at w.paint_dot.ensures))
         | else-holds+else-is_passed w ↦
             rw (w.colours-is, w.depths-is)
             (dot_skipped a.size.width a.frame g c.rows.colours c.rows.depths c.loop-i.colours c.loop-i.depths i j
-            (λ d. stays (image_if a.texture) a.pen o.triangle (middle i j) d (covers_is o (middle i j) s c.loop-i.invariant.0 ∙ sym w.if-holds.ensures)) c.loop-i.invariant.1)
+            (λ d. stays (image_if a.brush.texture) a.brush.pen o.triangle (middle i j) d (covers_is o (middle i j) s c.loop-i.invariant.0 ∙ sym w.if-holds.ensures)) c.loop-i.invariant.1)
       ],
     )
 
@@ -71,8 +71,8 @@ rows-preserved-then-is_passed c =
     let i = c.loop-i.i in
     let j = c.rows.j in (
       subst (SeenFrom o.triangle (middle a.frame.left (j + 1))) (sym c.plus-first.ensures) (seen_down o a.frame.left j c.rows.first c.rows.invariant.0),
-      row_more a.size.width a.frame (painting (image_if a.texture) a.pen o.triangle) a.colours.now a.depths.now c.rows.colours c.rows.depths i j c.loop-i.colours c.loop-i.depths
-          (λ n below _ d. stays (image_if a.texture) a.pen o.triangle (middle n j) d (past_all o i j c.loop-i.sides c.loop-i.invariant.0 (sym c.if-is_passed.ensures) n below)) c.rows.invariant.1 c.loop-i.invariant.1,
+      row_more a.size.width a.frame (painting (image_if a.brush.texture) a.brush.pen o.triangle) a.colours.now a.depths.now c.rows.colours c.rows.depths i j c.loop-i.colours c.loop-i.depths
+          (λ n below _ d. stays (image_if a.brush.texture) a.brush.pen o.triangle (middle n j) d (past_all o i j c.loop-i.sides c.loop-i.invariant.0 (sym c.if-is_passed.ensures) n below)) c.rows.invariant.1 c.loop-i.invariant.1,
     )
 
 pub rows-preserved : goal.rows-preserved
@@ -83,7 +83,7 @@ rows-preserved c =
     let j = c.rows.j in
     let end : a.frame.right ≤ i = c.loop-i-test.false in (
       subst (SeenFrom o.triangle (middle a.frame.left (j + 1))) (sym c.plus-first.ensures) (seen_down o a.frame.left j c.rows.first c.rows.invariant.0),
-      row_more a.size.width a.frame (painting (image_if a.texture) a.pen o.triangle) a.colours.now a.depths.now c.rows.colours c.rows.depths i j c.loop-i.colours c.loop-i.depths
+      row_more a.size.width a.frame (painting (image_if a.brush.texture) a.brush.pen o.triangle) a.colours.now a.depths.now c.rows.colours c.rows.depths i j c.loop-i.colours c.loop-i.depths
           (λ n below above d. absurd (omega arith)) c.rows.invariant.1 c.loop-i.invariant.1,
     )
 
@@ -91,4 +91,4 @@ pub returns : goal.returns
 returns c =
     let a = c.args in
     rw (← c.of-outline.ensures)
-    (all_above a.size.width a.frame (painting (image_if a.texture) a.pen c.of-outline.result.triangle) a.colours.now a.depths.now c.rows.colours c.rows.depths c.rows.j c.rows-test.false c.rows.invariant.1)
+    (all_above a.size.width a.frame (painting (image_if a.brush.texture) a.brush.pen c.of-outline.result.triangle) a.colours.now a.depths.now c.rows.colours c.rows.depths c.rows.j c.rows-test.false c.rows.invariant.1)

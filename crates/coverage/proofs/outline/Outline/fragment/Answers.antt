@@ -7,7 +7,7 @@ use Rattle.meaning.specs.Meaning.{edge, inside, turns, covers, middle}
 use Rattle.meaning.proofs.Sides.{is_above}
 use Rattle.meaning.proofs.Depths.{not_below, weights}
 use Rattle.meaning.proofs.Weighing.{Computed}
-use Rattle.setup.specs.declared.triangle.Triangle.{Triangle}
+use Rattle.meaning.specs.declared.triangle.Triangle.{Triangle}
 use Rattle.setup.specs.Ready.{Sound}
 use Rattle.coverage.specs.declared.sides.Sides.{Sides}
 use Rattle.coverage.specs.Walks.{SeenFrom}
