@@ -11,8 +11,7 @@ use Rattle.fixed_point.proofs.Signs.{mul_nonneg}
 use Rattle.meaning.specs.declared.geometry.Place.{Place}
 use Rattle.meaning.specs.Meaning.{edge, owns, inside, middle}
 use Rattle.meaning.specs.Fits.{PlaceFits}
-use Rattle.coverage.specs.declared.edges.Edge.{Edge}
-use Rattle.coverage.specs.Steps.{Steps, past_one}
+use Rattle.coverage.specs.Steps.{across_gain, down_gain, least_side, past_one}
 
 at_most : (a b : ℤ) → le_z a b ≡ true → a ≤ℤ b
 at_most a b h = grind (arith, ints)
@@ -45,11 +44,11 @@ next_middle : (i : ℕ) → pos (256 * (i + 1) + 128) ≡ pos (256 * i + 128) +�
 next_middle i = omega (arith, ints)
 
 module _ (p q : Place) where
-  pub edge_across : (i j : ℕ) → edge p q (middle (i + 1) j) ≡ edge p q (middle i j) +ℤ (pos 256 *ℤ (p.y -ℤ q.y))
+  pub edge_across : (i j : ℕ) → edge p q (middle (i + 1) j) ≡ edge p q (middle i j) +ℤ across_gain p q
   unfolding edge middle
   edge_across i j = ap (λ (x : ℤ). area p.x p.y q.x q.y x (pos (256 * j + 128))) (next_middle i) ∙ right p.x p.y q.x q.y (pos (256 * i + 128)) (pos (256 * j + 128))
 
-  pub edge_down : (i j : ℕ) → edge p q (middle i (j + 1)) ≡ edge p q (middle i j) +ℤ (pos 256 *ℤ (q.x -ℤ p.x))
+  pub edge_down : (i j : ℕ) → edge p q (middle i (j + 1)) ≡ edge p q (middle i j) +ℤ down_gain p q
   unfolding edge middle
   edge_down i j = ap (λ (y : ℤ). area p.x p.y q.x q.y (pos (256 * i + 128)) y) (next_middle j) ∙ under p.x p.y q.x q.y (pos (256 * i + 128)) (pos (256 * j + 128))
 
@@ -66,25 +65,25 @@ module _ (p q : Place) where
       sub_mag ((q.x -ℤ p.x) *ℤ (pos (256 * j + 128) -ℤ p.y)) ((q.y -ℤ p.y) *ℤ (pos (256 * i + 128) -ℤ p.x)) (2 ^ 47) (2 ^ 47) (omega arith) (omega arith)
 
   -- what is least for a place inside
-  pub inside_is : (e : Edge) → Steps p q e → (m : Place) → inside p q m ≡ le_z e.least (edge p q m)
+  pub inside_is : (m : Place) → inside p q m ≡ le_z (least_side p q) (edge p q m)
   unfolding inside sameZ
-  inside_is e s m = go (edge p q m) e.least (owns p q) s.least
+  inside_is m = go (edge p q m) (owns p q)
     where
-      go : (z l : ℤ) (o : Bool) → l ≡ cond o (pos 0) (pos 1) → (lt_z (pos 0) z || ((le_z z (pos 0) && le_z (pos 0) z) && o)) ≡ le_z l z
-      go z l true h = grind (arith, ints)
-      go z l false h = grind (arith, ints)
+      go : (z : ℤ) (o : Bool) → (lt_z (pos 0) z || ((le_z z (pos 0) && le_z (pos 0) z) && o)) ≡ le_z (cond o (pos 0) (pos 1)) z
+      go z true = grind (arith, ints)
+      go z false = grind (arith, ints)
 
   -- along a row that does not come nearer to the edge every dot is outside
-  pub outside_on : (e : Edge) → Steps p q e → (i j : ℕ) → past_one e (edge p q (middle i j)) ≡ true → (a : ℕ) → i ≤ a → inside p q (middle a j) ≡ false
+  pub outside_on : (i j : ℕ) → past_one (across_gain p q) (least_side p q) (edge p q (middle i j)) ≡ true → (a : ℕ) → i ≤ a → inside p q (middle a j) ≡ false
   unfolding edge middle
-  outside_on e s i j h a ia =
-      let g = and_parts (lt_z (edge p q (middle i j)) e.least) (le_z e.across (pos 0)) h in
-      inside_is e s (middle a j)
-      ∙ lower _ _ _ e.least g.0 (further p.x p.y q.x q.y (pos (256 * i + 128)) (pos (256 * a + 128)) (pos (256 * j + 128)))
-      (mul_nonneg (pos (256 * a + 128) -ℤ pos (256 * i + 128)) (q.y -ℤ p.y) (omega (arith, ints)) (falls e.across q.y p.y s.across g.1))
+  outside_on i j h a ia =
+      let g = and_parts (lt_z (edge p q (middle i j)) (least_side p q)) (le_z (across_gain p q) (pos 0)) h in
+      inside_is (middle a j)
+      ∙ lower _ _ _ (least_side p q) g.0 (further p.x p.y q.x q.y (pos (256 * i + 128)) (pos (256 * a + 128)) (pos (256 * j + 128)))
+      (mul_nonneg (pos (256 * a + 128) -ℤ pos (256 * i + 128)) (q.y -ℤ p.y) (omega (arith, ints)) (falls q.y p.y g.1))
     where
-      falls : (d qy py : ℤ) → d ≡ pos 256 *ℤ (py -ℤ qy) → le_z d (pos 0) ≡ true → pos 0 ≤ℤ (qy -ℤ py)
-      falls d qy py f g = let n : d ≤ℤ pos 0 = at_most d (pos 0) g in omega (arith, ints)
+      falls : (qy py : ℤ) → le_z (pos 256 *ℤ (py -ℤ qy)) (pos 0) ≡ true → pos 0 ≤ℤ (qy -ℤ py)
+      falls qy py g = let n : (pos 256 *ℤ (py -ℤ qy)) ≤ℤ pos 0 = at_most (pos 256 *ℤ (py -ℤ qy)) (pos 0) g in omega (arith, ints)
 
       lower : (z y g l : ℤ) → lt_z z l ≡ true → y ≡ z -ℤ g → pos 0 ≤ℤ g → le_z l y ≡ false
       lower z y g l h e n = let m : z <ℤ l = is_less z l h in is_not_above y l (omega (arith, ints))

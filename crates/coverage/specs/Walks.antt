@@ -7,8 +7,7 @@ use Rattle.meaning.specs.declared.pen.Pen.{Pen}
 use Rattle.meaning.specs.declared.state.Dot.{Dot}
 use Rattle.meaning.specs.Meaning.{Image, edge, middle, in_frame, if_covered}
 use Rattle.meaning.specs.Fits.{Within}
-use Rattle.setup.specs.declared.triangle.Triangle.{Triangle}
-use Rattle.coverage.specs.declared.edges.Edges.{Edges}
+use Rattle.meaning.specs.declared.triangle.Triangle.{Triangle}
 use Rattle.coverage.specs.declared.sides.Sides.{Sides}
 use Rattle.coverage.specs.Steps.{past_one}
 
@@ -23,20 +22,17 @@ pub record Fit (s : Sides) : Type 0 where
   pub bc : Within s.bc (2 ^ 63)
   pub ca : Within s.ca (2 ^ 63)
 
--- at the next dot of the row, and at the dot below
-abbrev pub across_by : Edges → Sides → Sides
-across_by e s = record { ab = s.ab +ℤ e.ab.across; bc = s.bc +ℤ e.bc.across; ca = s.ca +ℤ e.ca.across }
-
-abbrev pub down_by : Edges → Sides → Sides
-down_by e s = record { ab = s.ab +ℤ e.ab.down; bc = s.bc +ℤ e.bc.down; ca = s.ca +ℤ e.ca.down }
+-- edge by edge
+abbrev pub plus : Sides → Sides → Sides
+plus s d = record { ab = s.ab +ℤ d.ab; bc = s.bc +ℤ d.bc; ca = s.ca +ℤ d.ca }
 
 -- whether the place is in the triangle
-abbrev pub within : Edges → Sides → Bool
-within e s = int_le e.ab.least s.ab && (int_le e.bc.least s.bc && int_le e.ca.least s.ca)
+abbrev pub within : Sides → Sides → Bool
+within least s = int_le least.ab s.ab && (int_le least.bc s.bc && int_le least.ca s.ca)
 
 -- whether it is outside an edge that the row does not come nearer to
-abbrev pub past : Edges → Sides → Bool
-past e s = past_one e.ab s.ab || (past_one e.bc s.bc || past_one e.ca s.ca)
+abbrev pub past : Sides → Sides → Sides → Bool
+past across least s = past_one across.ab least.ab s.ab || (past_one across.bc least.bc s.bc || past_one across.ca least.ca s.ca)
 
 -- the dots of a frame above row j, and those of row j before dot i
 abbrev pub above : Frame → ℕ → ℕ → ℕ → Bool

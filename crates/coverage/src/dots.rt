@@ -7,10 +7,9 @@ ghost use Rattle.reference.specs.Changes.{Changes};
 ghost use Rattle.reference.specs.Dots.{OneDot};
 ghost use Rattle.coverage.specs.Spots.{spot};
 
+use meaning::brush::Brush;
 use meaning::fragment::Fragment;
-use meaning::pen::Pen;
 use meaning::state::{Dot, Size};
-use meaning::texture::Texture;
 
 // Where dot (i, j) lies among the dots.
 fn place_of(size: Size, i: u16, j: u16) -> usize
@@ -46,8 +45,7 @@ fn put_dot(colours: &mut [u8], depths: &mut [u16], place: usize, dot: Dot)
 // Dot (i, j), which the fragment is of, is painted.
 pub(crate) fn paint_dot(
     fragment: Fragment,
-    pen: Pen,
-    texture: Option<Texture<'_>>,
+    brush: Brush<'_>,
     size: Size,
     i: u16,
     j: u16,
@@ -59,9 +57,9 @@ pub(crate) fn paint_dot(
     requires down { j < size.height }
     requires colours { (size.height * size.width) * 3 ≤ length colours.old }
     requires depths { size.height * size.width ≤ length depths.old }
-    ensures { Changes size.width (in_box i j (i + 1) (j + 1)) (λ i j d. if_covered (image_if texture.entry) pen fragment.a fragment.b fragment.c (middle i j) d) colours.old depths.old colours.new depths.new }
+    ensures { Changes size.width (in_box i j (i + 1) (j + 1)) (λ i j d. if_covered (image_if brush.entry.texture) brush.entry.pen fragment.triangle.a fragment.triangle.b fragment.triangle.c (middle i j) d) colours.old depths.old colours.new depths.new }
 {
     let place = place_of(size, i, j);
-    let dot = fragment.paint(texture, pen, dot_at(colours, depths, place));
+    let dot = fragment.paint(brush, dot_at(colours, depths, place));
     put_dot(colours, depths, place, dot);
 }

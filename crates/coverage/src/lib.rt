@@ -8,25 +8,21 @@ ghost use Rattle.setup.specs.Ready.{Sound};
 ghost use Rattle.reference.specs.Changes.{Changes};
 
 use crate::dots::paint_dot;
-use crate::edges::Edges;
-use crate::fragments::{fragment_at, twice_area};
-use crate::sides::Sides;
-use meaning::pen::{Frame, Pen};
+use crate::outline::Outline;
+use meaning::brush::Brush;
+use meaning::pen::Frame;
 use meaning::state::Size;
-use meaning::texture::Texture;
-use setup::triangle::Triangle;
+use meaning::triangle::Triangle;
 
 mod dots;
-mod edges;
-mod fragments;
+mod outline;
 mod sides;
 
 // The dots of the frame that the triangle covers are painted, and no others.
 pub fn cover(
     triangle: Triangle,
     frame: Frame,
-    pen: Pen,
-    texture: Option<Texture<'_>>,
+    brush: Brush<'_>,
     size: Size,
     colours: &mut [u8],
     depths: &mut [u16],
@@ -36,23 +32,22 @@ pub fn cover(
     requires bottom { frame.bottom ≤ size.height }
     requires colours { (size.height * size.width) * 3 ≤ length colours.old }
     requires depths { size.height * size.width ≤ length depths.old }
-    ensures { Changes size.width (in_frame frame) (λ i j d. if_covered (image_if texture.entry) pen triangle.a triangle.b triangle.c (middle i j) d) colours.old depths.old colours.new depths.new }
+    ensures { Changes size.width (in_frame frame) (λ i j d. if_covered (image_if brush.entry.texture) brush.entry.pen triangle.a triangle.b triangle.c (middle i j) d) colours.old depths.old colours.new depths.new }
 {
-    let edges = Edges::of(triangle);
-    let area = twice_area(triangle);
-    let mut first = Sides::at(triangle, frame.left, frame.top);
+    let outline = Outline::of(triangle);
+    let mut first = outline.sides_at(frame.left, frame.top);
     'rows: for j in frame.top..frame.bottom {
         let mut sides = first;
         // moved on already here, since the row may be left before its end
-        first = first.below(edges);
+        first = first.plus(outline.down);
         for i in frame.left..frame.right {
-            if sides.are_inside(edges) {
-                let fragment = fragment_at(triangle, area, sides, i, j);
-                paint_dot(fragment, pen, texture, size, i, j, colours, depths);
-            } else if sides.are_past(edges) {
+            if outline.holds(sides) {
+                let fragment = outline.fragment(sides, i, j);
+                paint_dot(fragment, brush, size, i, j, colours, depths);
+            } else if outline.is_passed(sides) {
                 continue 'rows;
             }
-            sides = sides.beside(edges);
+            sides = sides.plus(outline.across);
         }
     }
 }

@@ -1,15 +1,12 @@
-// On which sides of a triangle's edges the middles of dots lie, from dot to dot.
+// A number for each edge of a triangle.
 ghost use Rattle.std.specs.Prelude.{◌≡◌};
-ghost use Rattle.meaning.specs.Meaning.{edge, middle};
-ghost use Rattle.meaning.specs.Fits.{PlaceFits};
-ghost use Rattle.setup.specs.Ready.{Sound};
-ghost use Rattle.coverage.specs.Walks.{SeenFrom, Fit, across_by, down_by, within, past};
+ghost use Rattle.meaning.specs.declared.geometry.Place.{Place};
+ghost use Rattle.coverage.specs.Walks.{Fit, plus};
 
-use crate::edges::Edges;
-use meaning::geometry::{Place, middle_of, side};
-use setup::triangle::Triangle;
+use meaning::geometry::Place;
+use meaning::triangle::Triangle;
 
-// For each edge twice the area of its two ends and the middle of a dot, above 0 if the middle lies inside.
+// For each edge on which side of it a place lies: twice the area of its two ends and the place, above 0 inside. Or what that gains from dot to dot.
 #[derive(Clone, Copy)]
 pub(crate) struct Sides {
     pub ab: i64,
@@ -17,62 +14,32 @@ pub(crate) struct Sides {
     pub ca: i64,
 }
 
-// The side of dot (i, j) for the edge from p to q.
-fn side_at(p: Place, q: Place, i: u16, j: u16) -> i64
-    requires { (PlaceFits p) × (PlaceFits q) }
-    ensures { result ≡ edge p q (middle i j) }
-{
-    side(p, q, middle_of(i, j)) as i64
-}
-
 impl Sides {
-    // The sides of dot (i, j).
-    pub(crate) fn at(triangle: Triangle, i: u16, j: u16) -> Sides
-        requires { Sound triangle }
-        ensures { SeenFrom triangle (middle i j) result }
+    // What a function makes of each edge's two ends.
+    pub(crate) fn of<F: Fn(Place, Place) -> i64>(triangle: Triangle, f: F) -> Sides
+        requires ab { F.pre f triangle.a.at triangle.b.at }
+        requires bc { F.pre f triangle.b.at triangle.c.at }
+        requires ca { F.pre f triangle.c.at triangle.a.at }
+        ensures ab { F.post f triangle.a.at triangle.b.at result.ab }
+        ensures bc { F.post f triangle.b.at triangle.c.at result.bc }
+        ensures ca { F.post f triangle.c.at triangle.a.at result.ca }
     {
+        let Triangle { a, b, c } = triangle;
         Sides {
-            ab: side_at(triangle.a.at, triangle.b.at, i, j),
-            bc: side_at(triangle.b.at, triangle.c.at, i, j),
-            ca: side_at(triangle.c.at, triangle.a.at, i, j),
+            ab: f(a.at, b.at),
+            bc: f(b.at, c.at),
+            ca: f(c.at, a.at),
         }
     }
 
-    // The sides of the next dot of the row.
-    pub(crate) fn beside(self, edges: Edges) -> Sides
-        requires { Fit (across_by edges self) }
-        ensures { result ≡ across_by edges self }
+    pub(crate) fn plus(self, gain: Sides) -> Sides
+        requires { Fit (plus self gain) }
+        ensures { result ≡ plus self gain }
     {
         Sides {
-            ab: self.ab + edges.ab.across,
-            bc: self.bc + edges.bc.across,
-            ca: self.ca + edges.ca.across,
+            ab: self.ab + gain.ab,
+            bc: self.bc + gain.bc,
+            ca: self.ca + gain.ca,
         }
-    }
-
-    // The sides of the dot below.
-    pub(crate) fn below(self, edges: Edges) -> Sides
-        requires { Fit (down_by edges self) }
-        ensures { result ≡ down_by edges self }
-    {
-        Sides {
-            ab: self.ab + edges.ab.down,
-            bc: self.bc + edges.bc.down,
-            ca: self.ca + edges.ca.down,
-        }
-    }
-
-    // Whether the dot is covered.
-    pub(crate) fn are_inside(self, edges: Edges) -> bool
-        ensures { result ≡ within edges self }
-    {
-        edges.ab.is_inside(self.ab) && edges.bc.is_inside(self.bc) && edges.ca.is_inside(self.ca)
-    }
-
-    // Whether the dot is not covered, nor any that follows in its row.
-    pub(crate) fn are_past(self, edges: Edges) -> bool
-        ensures { result ≡ past edges self }
-    {
-        edges.ab.is_past(self.ab) || edges.bc.is_past(self.bc) || edges.ca.is_past(self.ca)
     }
 }

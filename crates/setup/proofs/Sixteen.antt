@@ -3,7 +3,7 @@
 use Rattle.std.proofs.Common.{◌≡◌, ℕ, ◌+◌, ◌-◌, ◌*◌, ◌/◌, ◌%◌, ◌<◌, ◌≤◌, ◌⊎◌, List, [], ◌∷◌, length, get_or, take, drop, ◌∙◌, inl, inr, arith, w32, to_z, of_z}
 use borrow.Rule.Slice.PartMut.{put_mid}
 use Rattle.std.proofs.lemmas.List.{places}
-use Rattle.setup.specs.declared.triangle.Triangle.{Triangle}
+use Rattle.setup.specs.declared.triangle.ReadyTriangle.{ReadyTriangle}
 use Rattle.setup.specs.Ready.{Placed}
 use Rattle.setup.proofs.Spans.{same_small}
 use Rattle.setup.specs.Words.{coordinate_in, low, high, colour_in, triangle_in}
@@ -31,21 +31,24 @@ same_sixteen f g h =
     cc
 
 -- words in which the parts of a triangle are found again
-pub packed : (t : Triangle) → Placed t → (w0 w1 w2 w3 w4 w5 w6 w7 w8 w9 w10 w11 w12 w13 w14 w15 : ℕ) →
-    coordinate_in w0 ≡ to_z w32 (of_z w32 t.a.at.x) → coordinate_in w1 ≡ to_z w32 (of_z w32 t.a.at.y) →
-    coordinate_in w2 ≡ to_z w32 (of_z w32 t.b.at.x) → coordinate_in w3 ≡ to_z w32 (of_z w32 t.b.at.y) →
-    coordinate_in w4 ≡ to_z w32 (of_z w32 t.c.at.x) → coordinate_in w5 ≡ to_z w32 (of_z w32 t.c.at.y) →
-    low w6 ≡ t.a.depth → high w6 ≡ t.b.depth → low w7 ≡ t.c.depth →
-    low w8 ≡ t.a.u → high w8 ≡ t.a.v → low w9 ≡ t.b.u → high w9 ≡ t.b.v → low w10 ≡ t.c.u → high w10 ≡ t.c.v →
-    colour_in w11 ≡ t.a.colour → colour_in w12 ≡ t.b.colour → colour_in w13 ≡ t.c.colour →
-    low w14 ≡ t.frame.left → high w14 ≡ t.frame.right → low w15 ≡ t.frame.top → high w15 ≡ t.frame.bottom →
-    triangle_in (λ n. get_or (w0 ∷ w1 ∷ w2 ∷ w3 ∷ w4 ∷ w5 ∷ w6 ∷ w7 ∷ w8 ∷ w9 ∷ w10 ∷ w11 ∷ w12 ∷ w13 ∷ w14 ∷ w15 ∷ []) n 0) ≡ t
+pub packed : (r : ReadyTriangle) → Placed r.triangle → (w0 w1 w2 w3 w4 w5 w6 w7 w8 w9 w10 w11 w12 w13 w14 w15 : ℕ) →
+    coordinate_in w0 ≡ to_z w32 (of_z w32 r.triangle.a.at.x) → coordinate_in w1 ≡ to_z w32 (of_z w32 r.triangle.a.at.y) →
+    coordinate_in w2 ≡ to_z w32 (of_z w32 r.triangle.b.at.x) → coordinate_in w3 ≡ to_z w32 (of_z w32 r.triangle.b.at.y) →
+    coordinate_in w4 ≡ to_z w32 (of_z w32 r.triangle.c.at.x) → coordinate_in w5 ≡ to_z w32 (of_z w32 r.triangle.c.at.y) →
+    low w6 ≡ r.triangle.a.depth → high w6 ≡ r.triangle.b.depth → low w7 ≡ r.triangle.c.depth →
+    low w8 ≡ r.triangle.a.u → high w8 ≡ r.triangle.a.v → low w9 ≡ r.triangle.b.u → high w9 ≡ r.triangle.b.v → low w10 ≡ r.triangle.c.u → high w10 ≡ r.triangle.c.v →
+    colour_in w11 ≡ r.triangle.a.colour → colour_in w12 ≡ r.triangle.b.colour → colour_in w13 ≡ r.triangle.c.colour →
+    low w14 ≡ r.frame.left → high w14 ≡ r.frame.right → low w15 ≡ r.frame.top → high w15 ≡ r.frame.bottom →
+    triangle_in (λ n. get_or (w0 ∷ w1 ∷ w2 ∷ w3 ∷ w4 ∷ w5 ∷ w6 ∷ w7 ∷ w8 ∷ w9 ∷ w10 ∷ w11 ∷ w12 ∷ w13 ∷ w14 ∷ w15 ∷ []) n 0) ≡ r
 unfolding triangle_in
-packed t p w0 w1 w2 w3 w4 w5 w6 w7 w8 w9 w10 w11 w12 w13 w14 w15 e0 e1 e2 e3 e4 e5 e6 e7 e8 e9 e10 e11 e12 e13 e14 e15 e16 e17 e18 e19 e20 e21 =
+packed r p w0 w1 w2 w3 w4 w5 w6 w7 w8 w9 w10 w11 w12 w13 w14 w15 e0 e1 e2 e3 e4 e5 e6 e7 e8 e9 e10 e11 e12 e13 e14 e15 e16 e17 e18 e19 e20 e21 =
     λ i. record {
-      a = record { at = record { x = (e0 ∙ same_small t.a.at.x p.a.x) i; y = (e1 ∙ same_small t.a.at.y p.a.y) i }; depth = e6 i; u = e9 i; v = e10 i; colour = e15 i };
-      b = record { at = record { x = (e2 ∙ same_small t.b.at.x p.b.x) i; y = (e3 ∙ same_small t.b.at.y p.b.y) i }; depth = e7 i; u = e11 i; v = e12 i; colour = e16 i };
-      c = record { at = record { x = (e4 ∙ same_small t.c.at.x p.c.x) i; y = (e5 ∙ same_small t.c.at.y p.c.y) i }; depth = e8 i; u = e13 i; v = e14 i; colour = e17 i };
+      triangle =
+          record {
+            a = record { at = record { x = (e0 ∙ same_small r.triangle.a.at.x p.a.x) i; y = (e1 ∙ same_small r.triangle.a.at.y p.a.y) i }; depth = e6 i; u = e9 i; v = e10 i; colour = e15 i };
+            b = record { at = record { x = (e2 ∙ same_small r.triangle.b.at.x p.b.x) i; y = (e3 ∙ same_small r.triangle.b.at.y p.b.y) i }; depth = e7 i; u = e11 i; v = e12 i; colour = e16 i };
+            c = record { at = record { x = (e4 ∙ same_small r.triangle.c.at.x p.c.x) i; y = (e5 ∙ same_small r.triangle.c.at.y p.c.y) i }; depth = e8 i; u = e13 i; v = e14 i; colour = e17 i };
+          };
       frame = record { left = e18 i; top = e20 i; right = e19 i; bottom = e21 i };
     }
 

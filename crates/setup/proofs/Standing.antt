@@ -1,20 +1,23 @@
 -- A triangle with the dots of its box does to every dot what its points do under the pen.
 -- Assumes nothing.
-use Rattle.std.proofs.Common.{◌≡◌, ℕ, Bool, true, false, cond, not, ◌&&◌, ◌⊎◌, ℤ, pos, neg_ℤ, ◌<ℤ◌, Some, Option, sym, refl, ◌∙◌, subst, inl, inr, arith}
+use Rattle.std.proofs.Common.{◌≡◌, ℕ, Bool, true, false, cond, not, ◌&&◌, ◌⊎◌, ℤ, pos, neg_ℤ, ◌<ℤ◌, Some, None, Option, sym, refl, ◌∙◌, subst, inl, inr, arith}
 use lib.Signed.{lt_z, le_z}
 use Rattle.std.proofs.lemmas.Int.{ints}
 use Rattle.std.proofs.lemmas.Bool.{cases_Bool, cond-true, cond-false, cond_both}
 use Rattle.std.proofs.lemmas.Bool.Decides.{nat_tests}
+use Rattle.std.proofs.lemmas.Option.{none-some, same_Some}
 use Rattle.fixed_point.specs.Whole.{sameZ}
 use Rattle.meaning.specs.declared.points.Point.{Point}
 use Rattle.meaning.specs.declared.pen.Pen.{Pen}
 use Rattle.meaning.specs.declared.projection.View.{View}
 use Rattle.meaning.specs.declared.state.Dot.{Dot}
+use Rattle.meaning.specs.declared.triangle.Triangle.{Triangle}
 use Rattle.meaning.specs.Meaning.{Image, Triple, turns, covers, middle, in_frame, if_covered, at_dot, point_of, triple_at}
-use Rattle.meaning.specs.Fits.{PlaceFits}
+use Rattle.meaning.specs.Triangles.{turned, all_of, triangle_seen}
 use Rattle.meaning.proofs.Depths.{turns_back}
-use Rattle.meaning.proofs.Painting.{all_seen}
-use Rattle.setup.specs.declared.triangle.Triangle.{Triangle}
+use Rattle.meaning.proofs.Painting.{hidden, shown}
+use Rattle.meaning.proofs.Small.{place_fits}
+use Rattle.setup.specs.declared.triangle.ReadyTriangle.{ReadyTriangle}
 use Rattle.setup.specs.Boxes.{boxed}
 use Rattle.setup.specs.Ready.{Sound, Placed, Stands, nothing, Round, On}
 use Rattle.setup.proofs.Covering.{covered_boxed}
@@ -30,14 +33,14 @@ none_is x y i j = cond-false _ x y (outside i j)
     outside : (i j : ℕ) → in_frame nothing.frame i j ≡ false
     outside i j = grind (arith, nat_tests)
 
-none_sound : (i j : ℕ) → in_frame nothing.frame i j ≡ true → Sound nothing
+none_sound : (i j : ℕ) → in_frame nothing.frame i j ≡ true → Sound nothing.triangle
 none_sound i j e = absurd (outside i j e)
   where
     outside : (i j : ℕ) → in_frame nothing.frame i j ≡ true → ⊥
     outside i j e = grind (arith, nat_tests)
 
-pub none_placed : (t : Triangle) → t ≡ nothing → Placed t
-none_placed t e = subst Placed (sym e) (omega arith)
+pub none_placed : (r : ReadyTriangle) → r ≡ nothing → Placed r.triangle
+none_placed r e = subst (λ (x : ReadyTriangle). Placed x.triangle) (sym e) (omega arith)
 
 -- ---- a triangle at a dot, by its sign
 module _ (x : Option Image) (p : Pen) (a b c : Point) (i j : ℕ) (d : Dot) where
@@ -72,52 +75,59 @@ module _ (x : Option Image) (p : Pen) (a b c : Point) (i j : ℕ) (d : Dot) wher
       go (inr e) =
           cond_both (boxed a.at b.at c.at (middle i j)) _ d (λ (z : Dot). if_covered x p a b c (middle i j) d ≡ z) (λ _. refl) (λ _. cond-false _ _ _ e)
 
--- ---- three points
-module _ (p : Pen) (a b c : Point) (t : Triangle) (fa : PlaceFits a.at) (fb : PlaceFits b.at) (fc : PlaceFits c.at) (h : pos 0 <ℤ turns a b c) (r : Round a b c p.frame t) where
-  placed : Placed t
-  placed =
-      record {
-        a = subst (λ (q : Point). PlaceFits q.at) (sym r.a_is) fa;
-        b = subst (λ (q : Point). PlaceFits q.at) (sym r.b_is) fb;
-        c = subst (λ (q : Point). PlaceFits q.at) (sym r.c_is) fc;
-      }
+-- ---- a triangle on the picture
+module _ (p : Pen) (t : Triangle) (r : ReadyTriangle) (fits : Placed t) (h : pos 0 <ℤ turns t.a t.b t.c) (o : Round t p.frame r) where
+  placed : Placed r.triangle
+  placed = subst Placed (sym o.triangle_is) fits
 
-  sound : Sound t
-  sound = record { a = placed.a; b = placed.b; c = placed.c; clockwise = rw (r.a_is, r.b_is, r.c_is) h }
-
-  -- u, v and w are the same points in the order that the definition has them
-  same_dots : (u v w : Point) →
-      ((x : Option Image) (i j : ℕ) (d : Dot) → at_dot x p u v w i j d ≡ cond (in_frame p.frame i j) (if_covered x p a b c (middle i j) d) d) → On p u v w t
-  same_dots u v w e =
+  -- u has the same corners in the order that the definition has them
+  same_dots : (u : Triangle) →
+      ((x : Option Image) (i j : ℕ) (d : Dot) → at_dot x p u.a u.b u.c i j d ≡ cond (in_frame p.frame i j) (if_covered x p t.a t.b t.c (middle i j) d) d) → On p u r
+  same_dots u e =
       record {
         is = λ x i j d.
             e x i j d
-            ∙ in_box x p a b c i j d h (in_frame p.frame i j)
-            ∙ (λ k. cond (sym (r.frame_is i j) k) (if_covered x p (sym r.a_is k) (sym r.b_is k) (sym r.c_is k) (middle i j) d) d);
-        sound = λ i j _. sound;
+            ∙ in_box x p t.a t.b t.c i j d h (in_frame p.frame i j)
+            ∙ (λ k. cond (sym (o.frame_is i j) k) (if_covered x p (sym o.triangle_is k).a (sym o.triangle_is k).b (sym o.triangle_is k).c (middle i j) d) d);
+        sound = λ i j _. record { placed = placed; clockwise = rw o.triangle_is h };
         placed = placed;
       }
 
-module _ (p : Pen) (a b c : Point) (t : Triangle) where
-  module _ (fa : PlaceFits a.at) (fb : PlaceFits b.at) (fc : PlaceFits c.at) where
-    pub on_clock : pos 0 <ℤ turns a b c → Round a b c p.frame t → On p a b c t
-    on_clock h r = same_dots p a b c t fa fb fc h r a b c (λ x i j d. with_clock x p a b c i j d h)
+module _ (p : Pen) (t : Triangle) (r : ReadyTriangle) where
+  module _ (fits : Placed t) where
+    pub on_clock : pos 0 <ℤ turns t.a t.b t.c → Round t p.frame r → On p t r
+    on_clock h o = same_dots p t r fits h o t (λ x i j d. with_clock x p t.a t.b t.c i j d h)
 
-    pub on_against : turns a b c <ℤ pos 0 → Round a c b p.frame t → On p a b c t
-    on_against h r = same_dots p a c b t fa fc fb (above (turns a b c) (turns a c b) h (turns_back a b c)) r a b c (λ x i j d. against x p a b c i j d h)
+    pub on_against : turns t.a t.b t.c <ℤ pos 0 → Round (turned t) p.frame r → On p t r
+    on_against h o =
+        same_dots p (turned t) r (record { a = fits.a; b = fits.c; c = fits.b }) (above (turns t.a t.b t.c) (turns t.a t.c t.b) h (turns_back t.a t.b t.c)) o t
+        (λ x i j d. against x p t.a t.b t.c i j d h)
       where
         above : (x y : ℤ) → x <ℤ pos 0 → y ≡ neg_ℤ x → pos 0 <ℤ y
         above x y h e = omega (arith, ints)
 
-  pub on_flat : turns a b c ≡ pos 0 → t ≡ nothing → On p a b c t
+  pub on_flat : turns t.a t.b t.c ≡ pos 0 → r ≡ nothing → On p t r
   on_flat h e =
-      subst (On p a b c) (sym e) (record { is = λ x i j d. flat x p a b c i j d h ∙ sym (none_is _ d i j); sound = none_sound; placed = none_placed nothing refl })
+      subst (On p t) (sym e) (record { is = λ x i j d. flat x p t.a t.b t.c i j d h ∙ sym (none_is _ d i j); sound = none_sound; placed = none_placed nothing refl })
 
 -- ---- three corners
-module _ (p : Pen) (v : View) (z : Triple) (t : Triangle) where
-  pub hidden_stands : ((x : Option Image) (i j : ℕ) (d : Dot) → d ≡ triple_at x p v z i j d) → t ≡ nothing → Stands p v z t
-  hidden_stands h e = subst (Stands p v z) (sym e) (record { is = λ x i j d. sym (h x i j d) ∙ sym (none_is _ d i j); sound = none_sound })
-
-  pub seen_stands : (a b c : Point) → Some a ≡ point_of v z.a → Some b ≡ point_of v z.b → Some c ≡ point_of v z.c → On p a b c t → Stands p v z t
+module _ (p : Pen) (v : View) (z : Triple) (r : ReadyTriangle) where
+  pub hidden_stands : None ≡ triangle_seen v z → r ≡ nothing → Stands p v z r
   unfolding triple_at
-  seen_stands a b c e f g o = record { is = λ x i j d. sym (all_seen x p i j d a b c _ _ _ e f g) ∙ o.is x i j d; sound = o.sound }
+  hidden_stands h e = subst (Stands p v z) (sym e) (record { is = λ x i j d. sym (hidden x p i j d _ _ _ h) ∙ sym (none_is _ d i j); sound = none_sound })
+
+  pub seen_stands : (t : Triangle) → Some t ≡ triangle_seen v z → On p t r → Stands p v z r
+  unfolding triple_at
+  seen_stands t e o = record { is = λ x i j d. sym (shown x p i j d t _ _ _ e) ∙ o.is x i j d; sound = o.sound }
+
+-- the points that a view gives lie where points may
+pub seen_placed : (v : View) (z : Triple) (t : Triangle) → Some t ≡ triangle_seen v z → Placed t
+seen_placed v z t e =
+    let s = parts (point_of v z.a) (point_of v z.b) (point_of v z.c) t e in
+    record { a = place_fits v z.a t.a s.0; b = place_fits v z.b t.b s.1; c = place_fits v z.c t.c s.2 }
+  where
+    parts : (x y w : Option Point) (t : Triangle) → Some t ≡ all_of x y w → (x ≡ Some t.a) × (y ≡ Some t.b) × (w ≡ Some t.c)
+    parts None y w t e = absurd (none-some t (sym e))
+    parts (Some a) None w t e = absurd (none-some t (sym e))
+    parts (Some a) (Some b) None t e = absurd (none-some t (sym e))
+    parts (Some a) (Some b) (Some c) t e = let h = same_Some t _ e in rw h (refl, refl, refl)

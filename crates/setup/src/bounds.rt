@@ -2,11 +2,11 @@
 ghost use Rattle.std.specs.Prelude.{◌≡◌, ℕ, ◌+◌, ◌*◌, ◌<◌, ◌≤◌, ◌&&◌, pos, int_lt, nat_le, nat_lt};
 ghost use Rattle.std.specs.Int.Signed.{mag};
 ghost use Rattle.meaning.specs.Meaning.{in_frame, middle};
-ghost use Rattle.meaning.specs.Fits.{PlaceFits};
 ghost use Rattle.setup.specs.Boxes.{between, boxed};
+ghost use Rattle.setup.specs.Ready.{Placed};
 
-use meaning::geometry::Place;
 use meaning::pen::Frame;
+use meaning::triangle::Triangle;
 
 // How many dots of a row or a column have their middles before x.
 fn middles_before(x: i32) -> u16
@@ -31,13 +31,12 @@ fn span(x: i32, y: i32, z: i32, from: u16, to: u16) -> (u16, u16)
     )
 }
 
-// Of the dots of a frame those whose middles lie in the box of three places.
-pub(crate) fn bounds(a: Place, b: Place, c: Place, frame: Frame) -> Frame
-    requires a { PlaceFits a }
-    requires b { PlaceFits b }
-    requires c { PlaceFits c }
-    ensures { (i j : ℕ) → in_frame result i j ≡ (in_frame frame i j && boxed a b c (middle i j)) }
+// Of the dots of a frame those whose middles lie in a triangle's box.
+pub(crate) fn bounds(triangle: Triangle, frame: Frame) -> Frame
+    requires { Placed triangle }
+    ensures { (i j : ℕ) → in_frame result i j ≡ (in_frame frame i j && boxed triangle.a.at triangle.b.at triangle.c.at (middle i j)) }
 {
+    let (a, b, c) = (triangle.a.at, triangle.b.at, triangle.c.at);
     let (left, right) = span(a.x, b.x, c.x, frame.left, frame.right);
     let (top, bottom) = span(a.y, b.y, c.y, frame.top, frame.bottom);
     Frame {

@@ -1,16 +1,15 @@
 // Corners made ready as a triangle on the picture.
 ghost use Rattle.std.specs.Prelude.{◌≡◌};
-ghost use Rattle.meaning.specs.Fits.{PlaceFits};
 ghost use Rattle.meaning.specs.Fragments.{triple};
 ghost use Rattle.setup.specs.Ready.{Stands, Placed, nothing, Round, On};
 
 use crate::bounds::bounds;
-use crate::triangle::Triangle;
+use crate::triangle::ReadyTriangle;
 use meaning::geometry::Place;
 use meaning::pen::{Frame, Pen};
 use meaning::points::{Corner, Point};
 use meaning::projection::View;
-use meaning::triangle::turn;
+use meaning::triangle::Triangle;
 
 const NOWHERE: Point = Point {
     at: Place { x: 0, y: 0 },
@@ -20,15 +19,18 @@ const NOWHERE: Point = Point {
     colour: [0, 0, 0, 0],
 };
 
-impl Triangle {
+impl ReadyTriangle {
     // One that paints nothing.
-    fn none() -> Triangle
+    // Kept: no Option, since in the work it takes its sixteen words too, and there an empty frame says it without a flag.
+    fn none() -> ReadyTriangle
         ensures { result ≡ nothing }
     {
-        Triangle {
-            a: NOWHERE,
-            b: NOWHERE,
-            c: NOWHERE,
+        ReadyTriangle {
+            triangle: Triangle {
+                a: NOWHERE,
+                b: NOWHERE,
+                c: NOWHERE,
+            },
             frame: Frame {
                 left: 0,
                 top: 0,
@@ -38,49 +40,41 @@ impl Triangle {
         }
     }
 
-    // Three points that go round with the clock, with the dots of the frame that they can cover.
-    fn boxed(a: Point, b: Point, c: Point, frame: Frame) -> Triangle
-        requires a { PlaceFits a.at }
-        requires b { PlaceFits b.at }
-        requires c { PlaceFits c.at }
-        ensures { Round a b c frame result }
+    // One that goes round with the clock, with the dots of the frame that it can cover.
+    fn boxed(triangle: Triangle, frame: Frame) -> ReadyTriangle
+        requires { Placed triangle }
+        ensures { Round triangle frame result }
     {
-        let frame = bounds(a.at, b.at, c.at, frame);
-        Triangle { a, b, c, frame }
+        ReadyTriangle {
+            triangle,
+            frame: bounds(triangle, frame),
+        }
     }
 
-    // Three points on the picture: those that go round against the clock are turned, and those without area paint nothing.
-    fn turned(pen: Pen, a: Point, b: Point, c: Point) -> Triangle
-        requires a { PlaceFits a.at }
-        requires b { PlaceFits b.at }
-        requires c { PlaceFits c.at }
-        ensures { On pen a b c result }
+    // A triangle on the picture: one that goes round against the clock is turned, and one without area paints nothing.
+    fn turned(pen: Pen, triangle: Triangle) -> ReadyTriangle
+        requires { Placed triangle }
+        ensures { On pen triangle result }
     {
-        let area = turn(a, b, c);
+        let area = triangle.turn();
         if area == 0 {
-            return Triangle::none();
+            return ReadyTriangle::none();
         }
         if area < 0 {
-            Triangle::boxed(a, c, b, pen.frame)
+            ReadyTriangle::boxed(triangle.turned(), pen.frame)
         } else {
-            Triangle::boxed(a, b, c, pen.frame)
+            ReadyTriangle::boxed(triangle, pen.frame)
         }
     }
 
     // Three corners under a view; one that is hidden makes a triangle that paints nothing.
-    pub fn ready(view: View, pen: Pen, corners: [Corner; 3]) -> Triangle
+    pub fn ready(view: View, pen: Pen, corners: [Corner; 3]) -> ReadyTriangle
         ensures stands { Stands pen view (triple corners) result }
-        ensures placed { Placed result }
+        ensures placed { Placed result.triangle }
     {
-        let Some(a) = view.point(corners[0]) else {
-            return Triangle::none();
-        };
-        let Some(b) = view.point(corners[1]) else {
-            return Triangle::none();
-        };
-        let Some(c) = view.point(corners[2]) else {
-            return Triangle::none();
-        };
-        Triangle::turned(pen, a, b, c)
+        match view.triangle(corners) {
+            Some(triangle) => ReadyTriangle::turned(pen, triangle),
+            None => ReadyTriangle::none(),
+        }
     }
 }

@@ -4,10 +4,11 @@ ghost use Rattle.std.specs.Int.Signed.{mag};
 ghost use Rattle.setup.specs.Ready.{Placed};
 ghost use Rattle.setup.specs.Words.{coordinate_in, low, high, colour_in, point_in, triangle_in, triangle_of};
 
-use crate::triangle::Triangle;
+use crate::triangle::ReadyTriangle;
 use meaning::geometry::Place;
 use meaning::pen::Frame;
 use meaning::points::Point;
+use meaning::triangle::Triangle;
 
 // A coordinate as its distance from the least one, which wants no sign.
 fn distance(x: i32) -> u32
@@ -68,15 +69,17 @@ fn unpack_point(x: u32, y: u32, depth: u16, texture: u32, colour: u32) -> Point
 }
 
 // The triangle of sixteen words.
-fn unpack(words: &[u32]) -> Triangle
+fn unpack(words: &[u32]) -> ReadyTriangle
     requires { length words.now ≡ 16 }
     ensures { result ≡ triangle_in (λ n. slice_index words.now n) }
 {
     let (depth_a, depth_b, depth_c) = (low_half(words[6]), high_half(words[6]), low_half(words[7]));
-    Triangle {
-        a: unpack_point(words[0], words[1], depth_a, words[8], words[11]),
-        b: unpack_point(words[2], words[3], depth_b, words[9], words[12]),
-        c: unpack_point(words[4], words[5], depth_c, words[10], words[13]),
+    ReadyTriangle {
+        triangle: Triangle {
+            a: unpack_point(words[0], words[1], depth_a, words[8], words[11]),
+            b: unpack_point(words[2], words[3], depth_b, words[9], words[12]),
+            c: unpack_point(words[4], words[5], depth_c, words[10], words[13]),
+        },
         frame: Frame {
             left: low_half(words[14]),
             top: low_half(words[15]),
@@ -87,11 +90,12 @@ fn unpack(words: &[u32]) -> Triangle
 }
 
 // The sixteen words of a triangle.
-fn pack(triangle: Triangle) -> [u32; 16]
-    requires { Placed triangle }
-    ensures { triangle_in (λ n. slice_index result n) ≡ triangle }
+fn pack(ready: ReadyTriangle) -> [u32; 16]
+    requires { Placed ready.triangle }
+    ensures { triangle_in (λ n. slice_index result n) ≡ ready }
 {
-    let Triangle { a, b, c, frame } = triangle;
+    let Triangle { a, b, c } = ready.triangle;
+    let frame = ready.frame;
     [
         distance(a.at.x),
         distance(a.at.y),
@@ -113,17 +117,17 @@ fn pack(triangle: Triangle) -> [u32; 16]
 }
 
 // Puts a triangle into the work, from word `at` on.
-pub fn store(work: &mut [u32], at: usize, triangle: Triangle)
+pub fn store(work: &mut [u32], at: usize, ready: ReadyTriangle)
     requires room { at + 16 ≤ length work.old }
-    requires placed { Placed triangle }
-    ensures stored { triangle_of work.new at ≡ triangle }
+    requires placed { Placed ready.triangle }
+    ensures stored { triangle_of work.new at ≡ ready }
     ensures others { (k : ℕ) → (k < at) ⊎ (at + 16 ≤ k) → slice_index work.new k ≡ slice_index work.old k }
 {
-    work[at..at + 16].copy_from_slice(&pack(triangle));
+    work[at..at + 16].copy_from_slice(&pack(ready));
 }
 
 // The triangle that the work has from word `at` on.
-pub fn load(work: &[u32], at: usize) -> Triangle
+pub fn load(work: &[u32], at: usize) -> ReadyTriangle
     requires { at + 16 ≤ length work.now }
     ensures { result ≡ triangle_of work.now at }
 {

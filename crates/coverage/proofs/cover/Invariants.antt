@@ -6,10 +6,10 @@ use Rattle.coverage.proofs.cover.Given as goal
 
 abbrev pub invariant-rows : goal.invariant-rows
 invariant-rows l =
-    SeenFrom l.triangle (middle l.frame.left l.j) l.first
-    × Changes l.size.width (above l.frame l.j) (painting (image_if l.texture) l.pen l.triangle) l.initial.colours l.initial.depths l.colours l.depths
+    SeenFrom l.outline.triangle (middle l.frame.left l.j) l.first
+    × Changes l.size.width (above l.frame l.j) (painting (image_if l.brush.texture) l.brush.pen l.outline.triangle) l.initial.colours l.initial.depths l.colours l.depths
 
 abbrev pub invariant-loop-i : goal.invariant-loop-i
 invariant-loop-i l =
-    SeenFrom l.triangle (middle l.i l.j) l.sides
-    × Changes l.size.width (before l.frame l.i l.j) (painting (image_if l.texture) l.pen l.triangle) l.initial.colours l.initial.depths l.colours l.depths
+    SeenFrom l.outline.triangle (middle l.i l.j) l.sides
+    × Changes l.size.width (before l.frame l.i l.j) (painting (image_if l.brush.texture) l.brush.pen l.outline.triangle) l.initial.colours l.initial.depths l.colours l.depths

@@ -7,9 +7,9 @@ use Rattle.setup.proofs.bounds.bounds.Goals as goal
 pub returns : goal.returns
 unfolding middle
 returns c i j =
-    let a = c.args.a in
-    let b = c.args.b in
-    let d = c.args.c in
+    let a = c.args.triangle.a.at in
+    let b = c.args.triangle.b.at in
+    let d = c.args.triangle.c.at in
     let f = c.args.frame in
     let p = c.requires in
     let x = pos (256 * i + 128) in

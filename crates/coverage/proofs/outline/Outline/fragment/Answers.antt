@@ -7,11 +7,11 @@ use Rattle.meaning.specs.Meaning.{edge, inside, turns, covers, middle}
 use Rattle.meaning.proofs.Sides.{is_above}
 use Rattle.meaning.proofs.Depths.{not_below, weights}
 use Rattle.meaning.proofs.Weighing.{Computed}
-use Rattle.setup.specs.declared.triangle.Triangle.{Triangle}
+use Rattle.meaning.specs.declared.triangle.Triangle.{Triangle}
 use Rattle.setup.specs.Ready.{Sound}
 use Rattle.coverage.specs.declared.sides.Sides.{Sides}
 use Rattle.coverage.specs.Walks.{SeenFrom}
-use Rattle.coverage.proofs.fragments.fragment_at.Goals as goal
+use Rattle.coverage.proofs.outline.Outline.fragment.Goals as goal
 
 -- n is a number without its sign
 abbrev Unsigned : ℕ → ℤ → Type 0
@@ -46,12 +46,12 @@ share t i j m s wa wb wc area d o x h e fab fbc fca ua ub uc ha hb hc =
 
 pub invariant_of-weights : goal.invariant_of-weights
 invariant_of-weights c =
-    let w = share c.args.triangle c.args.i c.args.j c.middle_of.result c.args.sides _ _ _ _ c.middle_of.ensures c.requires.sound c.requires.seen c.requires.covered c.requires.whole
+    let w = share c.args.self.triangle c.args.i c.args.j c.middle_of.result c.args.sides _ _ _ _ c.middle_of.ensures c.args.self.sound c.requires.seen c.requires.covered c.args.self.whole
     (search rules) (search rules) (search rules) (search rules) (search rules) (search rules) (omega arith) (omega arith) (omega arith) in
     record { some = w.some; sum = w.sum; fits = w.small }
 
 pub invariant_of-result : goal.invariant_of-result
 invariant_of-result c =
-    let w = share c.args.triangle c.args.i c.args.j c.middle_of.result c.args.sides _ _ _ _ c.middle_of.ensures c.requires.sound c.requires.seen c.requires.covered c.requires.whole
+    let w = share c.args.self.triangle c.args.i c.args.j c.middle_of.result c.args.sides _ _ _ _ c.middle_of.ensures c.args.self.sound c.requires.seen c.requires.covered c.args.self.whole
     (search rules) (search rules) (search rules) (search rules) (search rules) (search rules) (omega arith) (omega arith) (omega arith) in
     record { covered = w.held; first = w.a_is; second = w.b_is; third = w.c_is; whole = w.area_is }

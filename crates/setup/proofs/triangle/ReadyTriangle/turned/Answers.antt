@@ -4,7 +4,7 @@ use mir.Syntax.{w128}
 use Rattle.std.proofs.lemmas.Int.{ints, to_z-of_z}
 use Rattle.meaning.specs.Meaning.{turns}
 use Rattle.setup.proofs.Standing.{on_clock, on_against, on_flat}
-use Rattle.setup.proofs.triangle.Triangle.turned.Goals as goal
+use Rattle.setup.proofs.triangle.ReadyTriangle.turned.Goals as goal
 
 -- the sign of the area, from tests of its bits
 module _ (z t : ℤ) (f : SFits w128 z) (e : z ≡ t) where
@@ -22,17 +22,20 @@ module _ (z t : ℤ) (f : SFits w128 z) (e : z ≡ t) where
 
 pub returns-then-area-eq0 : goal.returns-then-area-eq0
 returns-then-area-eq0 c =
-    let a = c.args in
-    on_flat a.pen a.a a.b a.c c.none.result (none c.turn-area.result (turns a.a a.b a.c) (search rules) c.turn-area.ensures.value c.if-area-eq0.true) c.none.ensures
+    let t = c.args.triangle in
+    on_flat c.args.pen t c.none.result (none c.turn-area.result (turns t.a t.b t.c) (search rules) c.turn-area.ensures.value c.if-area-eq0.true) c.none.ensures
+
+pub boxed-requires : goal.boxed-requires
+boxed-requires c = let p = c.requires in rw c.turned.ensures (record { a = p.a; b = p.c; c = p.b })
 
 pub returns-then-area-lt0 : goal.returns-then-area-lt0
 returns-then-area-lt0 c =
-    let a = c.args in
-    on_against a.pen a.a a.b a.c c.boxed.result c.requires.a c.requires.b c.requires.c
-    (below c.turn-area.result (turns a.a a.b a.c) (search rules) c.turn-area.ensures.value c.if-area-lt0.true) c.boxed.ensures
+    let t = c.args.triangle in
+    on_against c.args.pen t c.boxed.result c.requires (below c.turn-area.result (turns t.a t.b t.c) (search rules) c.turn-area.ensures.value c.if-area-lt0.true)
+    (rw c.turned.ensures at c.boxed.ensures)
 
 pub returns-else-area-lt0 : goal.returns-else-area-lt0
 returns-else-area-lt0 c =
-    let a = c.args in
-    on_clock a.pen a.a a.b a.c c.boxed-else-area-lt0.result c.requires.a c.requires.b c.requires.c
-    (above c.turn-area.result (turns a.a a.b a.c) (search rules) c.turn-area.ensures.value c.if-area-eq0.false c.if-area-lt0.false) c.boxed-else-area-lt0.ensures
+    let t = c.args.triangle in
+    on_clock c.args.pen t c.boxed-else-area-lt0.result c.requires
+    (above c.turn-area.result (turns t.a t.b t.c) (search rules) c.turn-area.ensures.value c.if-area-eq0.false c.if-area-lt0.false) c.boxed-else-area-lt0.ensures

@@ -6,7 +6,7 @@ use Rattle.meaning.specs.declared.geometry.Place.{Place}
 use Rattle.meaning.specs.Meaning.{edge, middle}
 use Rattle.meaning.specs.Fits.{PlaceFits}
 use Rattle.coverage.proofs.OneEdge.{edge_fits}
-use Rattle.coverage.proofs.sides.side_at.Goals as goal
+use Rattle.coverage.proofs.outline.side_at.Goals as goal
 
 -- at the width of the meaning's numbers, and then at half of it
 record Narrow (r e : ℤ) : Type 0 where
