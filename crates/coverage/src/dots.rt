@@ -10,13 +10,7 @@ ghost use Rattle.coverage.specs.Spots.{spot};
 use meaning::brush::Brush;
 use meaning::fragment::Fragment;
 use meaning::state::{Dot, Size};
-
-// Where dot (i, j) lies among the dots.
-fn place_of(size: Size, i: u16, j: u16) -> usize
-    ensures { result ≡ j * size.width + i }
-{
-    usize::from(j) * usize::from(size.width) + usize::from(i)
-}
+use reference::places::{place_of, put_dot};
 
 // The dot at a place.
 fn dot_at(colours: &[u8], depths: &[u16], place: usize) -> Dot
@@ -29,17 +23,6 @@ fn dot_at(colours: &[u8], depths: &[u16], place: usize) -> Dot
         colour: [colours[first], colours[first + 1], colours[first + 2]],
         depth: depths[place],
     }
-}
-
-// The dot at a place becomes another.
-fn put_dot(colours: &mut [u8], depths: &mut [u16], place: usize, dot: Dot)
-    requires colours { place * 3 + 3 ≤ length colours.old }
-    requires depths { place < length depths.old }
-    ensures colours { OneDot place dot.colour colours.old colours.new }
-    ensures depths { depths.new ≡ slice_set depths.old place dot.depth }
-{
-    colours[place * 3..place * 3 + 3].copy_from_slice(&dot.colour);
-    depths[place] = dot.depth;
 }
 
 // Dot (i, j), which the fragment is of, is painted.
@@ -59,7 +42,7 @@ pub(crate) fn paint_dot(
     requires depths { size.height * size.width ≤ length depths.old }
     ensures { Changes size.width (in_box i j (i + 1) (j + 1)) (λ i j d. if_covered (image_if brush.entry.texture) brush.entry.pen fragment.triangle.a fragment.triangle.b fragment.triangle.c (middle i j) d) colours.old depths.old colours.new depths.new }
 {
-    let place = place_of(size, i, j);
+    let place = place_of(size, 0, i, j);
     let dot = fragment.paint(brush, dot_at(colours, depths, place));
     put_dot(colours, depths, place, dot);
 }

@@ -54,4 +54,4 @@ pub invariant_of-result : goal.invariant_of-result
 invariant_of-result c =
     let w = share c.args.self.triangle c.args.i c.args.j c.middle_of.result c.args.sides _ _ _ _ c.middle_of.ensures c.args.self.sound c.requires.seen c.requires.covered c.args.self.whole
     (search rules) (search rules) (search rules) (search rules) (search rules) (search rules) (omega arith) (omega arith) (omega arith) in
-    record { covered = w.held; first = w.a_is; second = w.b_is; third = w.c_is; whole = w.area_is }
+    record { weighs = record { held = w.held; a_is = w.a_is; b_is = w.b_is; c_is = w.c_is; area_is = w.area_is } }
