@@ -1,4 +1,4 @@
-use Rattle.std.proofs.Common.{◌≡◌, ℕ, ◌^◌, ◌<◌, ◌&&◌, Bool, true, false, ℤ, pos, ◌-ℤ◌, neg_ℤ, is_le, is_lt, int_cmp, sym, refl, ◌∙◌, arith, w32, w64, SFits, to_z, of_z}
+use Rattle.std.proofs.Common.{◌≡◌, ℕ, ◌^◌, ◌<◌, ◌&&◌, ℤ, pos, ◌-ℤ◌, neg_ℤ, is_le, is_lt, int_cmp, refl, ◌∙◌, arith, w32, w64, SFits, to_z, of_z}
 use Rattle.std.specs.Prelude.{int_le, int_lt}
 use Rattle.std.proofs.lemmas.Int.{ints, to_z-of_z}
 use Rattle.codec.specs.Judged.{within}
