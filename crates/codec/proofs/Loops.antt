@@ -20,17 +20,10 @@ pub record Loop {A : Type 0} (read : judged.Reader A) (n i : ℕ) (x y : Reader)
   pub is : times n read (length x.bytes.now) (left x) ≡ then (times (n - i) read (length x.bytes.now) (left y)) (λ more rest. got (done ++ more) rest)
 
 module _ {A : Type 0} where
-  then_got : (m : Got (List A)) → m ≡ then m (λ more rest. got ([] ++ more) rest)
-  then_got (stop k p) = refl
-  then_got (got l rest) = refl
-
   then_more : (m : Got (List A)) (a : A) (d : List A) →
       then (then m (λ more rest. got (a ∷ more) rest)) (λ more rest. got (d ++ more) rest) ≡ then m (λ more rest. got ((d ++ a ∷ []) ++ more) rest)
   then_more (stop k p) a d = refl
   then_more (got l rest) a d = ap (λ (z : List A). got z rest) (sym (append_assoc d (a ∷ []) l))
-
-  pub loop_start : (read : judged.Reader A) (n : ℕ) (x : Reader) → Loop read n 0 x x
-  loop_start read n x = let e : n - 0 ≡ n = omega arith in record { same = refl; done = []; long = refl; is = rw e (then_got (times n read (length x.bytes.now) (left x))) }
 
   module _ {B : Type 0} {f : B → A} {read : judged.Reader A} {n i : ℕ} {x y z : Reader} {r : Result B Refusal} (o : Loop read n i x y) (h : Reads f read y r z) where
     pub loop_more : {b : B} → i < n → r ≡ Ok b → Loop read n (i + 1) x z

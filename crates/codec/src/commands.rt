@@ -20,6 +20,7 @@ impl Reader<'_> {
         Ok(Command::Clear { colour, depth })
     }
 
+    // Kept: size and textures as two parameters. They part at once, in `pen`, one for the frame and one for the texture; a struct of both would be made for the call alone.
     // One command, for a picture of this size and a file with so many textures.
     pub fn command(&mut self, size: Size, textures: u8) -> Result<Command, Refusal>
         ensures { ReadsSome Headed (a_command built_yet size textures) self.old result self.new }

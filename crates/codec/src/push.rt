@@ -5,16 +5,19 @@ ghost use Rattle.codec.specs.Writing.{part_image, part_images, part_ok, instruct
 
 use crate::part::TexturePart;
 use meaning::command::Command;
+use meaning::kind::Kind;
 use meaning::pen::{Frame, Pen};
 use std::alloc::AllocError;
 
 // A number of two bytes, the low one first.
+#[tactic(auto, unfolding(crate::specs::File::le))]
 pub(crate) fn push_word(out: &mut Vec<u8>, n: u16) -> Result<(), AllocError>
     ensures { OnOk result (out.new.items ≡ out.old.items ++ le 2 n) }
 {
     out.extend_from_slice(&n.to_le_bytes())
 }
 
+#[tactic(auto, using(crate::proofs::Appending::behind), unfolding(crate::specs::File::frame_bytes))]
 fn push_frame(out: &mut Vec<u8>, frame: Frame) -> Result<(), AllocError>
     ensures { OnOk result (out.new.items ≡ out.old.items ++ frame_bytes frame) }
 {
@@ -25,12 +28,13 @@ fn push_frame(out: &mut Vec<u8>, frame: Frame) -> Result<(), AllocError>
     Ok(())
 }
 
-// A pen behind its kind, 1.
+// A pen behind its kind.
+#[tactic(auto, using(crate::proofs::Appending::behind, crate::proofs::Appending::flag_byte), unfolding(crate::specs::File::pen_bytes))]
 fn push_pen(out: &mut Vec<u8>, pen: Pen) -> Result<(), AllocError>
     ensures { OnOk result (out.new.items ≡ out.old.items ++ (1 ∷ pen_bytes pen)) }
 {
     out.extend_from_slice(&[
-        1,
+        u8::from(Kind::Pen),
         u8::from(pen.test),
         u8::from(pen.keeps),
         u8::from(pen.mix),
@@ -40,17 +44,18 @@ fn push_pen(out: &mut Vec<u8>, pen: Pen) -> Result<(), AllocError>
     Ok(())
 }
 
-// A clear behind its kind, 3.
+// A clear behind its kind.
 fn push_clear(out: &mut Vec<u8>, colour: [u8; 3], depth: u16) -> Result<(), AllocError>
     ensures { OnOk result (out.new.items ≡ out.old.items ++ (3 ∷ (colour ++ le 2 depth))) }
 {
-    out.push(3)?;
+    out.push(u8::from(Kind::Clear))?;
     out.extend_from_slice(&colour)?;
     push_word(out, depth)?;
     Ok(())
 }
 
 // A command of any kind; one that cannot be written yet adds nothing.
+#[tactic(auto, unfolding(crate::specs::File::all, crate::specs::File::command_bytes))]
 fn push_command(out: &mut Vec<u8>, command: Command) -> Result<(), AllocError>
     ensures { OnOk result (out.new.items ≡ out.old.items ++ command_part command) }
 {
@@ -58,13 +63,14 @@ fn push_command(out: &mut Vec<u8>, command: Command) -> Result<(), AllocError>
         Command::Pen(pen) => push_pen(out, pen),
         Command::Clear { colour, depth } => push_clear(out, colour, depth),
         Command::Show => {
-            out.push(5)?;
+            out.push(u8::from(Kind::Show))?;
             Ok(())
         }
         Command::Look(_) | Command::Triangles(_) => Ok(()),
     }
 }
 
+// Kept: a loop of its own, as that over textures below. One function over both would take a closure and a requires and an ensures over what it pushes, more than both loops.
 pub(crate) fn push_commands(out: &mut Vec<u8>, commands: &[Command]) -> Result<(), AllocError>
     ensures { OnOk result (out.new.items ≡ out.old.items ++ all command_bytes (instructions commands.now)) }
 {
@@ -74,14 +80,13 @@ pub(crate) fn push_commands(out: &mut Vec<u8>, commands: &[Command]) -> Result<(
     Ok(())
 }
 
+#[tactic(auto, using(crate::proofs::Appending::behind), unfolding(crate::specs::File::image_bytes))]
 fn push_texture(out: &mut Vec<u8>, part: TexturePart, dots: &[u8]) -> Result<(), AllocError>
     requires { part_ok (length dots.now) part ≡ true }
     ensures { OnOk result (out.new.items ≡ out.old.items ++ image_bytes (part_image dots.now part)) }
 {
     out.extend_from_slice(&[part.across, part.down])?;
-    let start = part.start;
-    let end = start + part.size();
-    out.extend_from_slice(&dots[start..end])?;
+    out.extend_from_slice(&dots[part.start..][..part.size()])?;
     Ok(())
 }
 

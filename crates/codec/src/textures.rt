@@ -20,6 +20,7 @@ impl<'a> Reader<'a> {
         Ok(Texture { across, down, dots })
     }
 
+    // Kept: a loop of its own, as that over commands. One function over both would take a closure and a clause on every call of it, more than both loops.
     // So many textures, which are judged here and found again later.
     pub fn textures(&mut self, many: u8) -> Result<(), Refusal>
         ensures { ReadsSome (SomeList many) (times many a_texture) self.old result self.new }
