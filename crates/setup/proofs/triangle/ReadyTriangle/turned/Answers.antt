@@ -25,9 +25,6 @@ returns-then-area-eq0 c =
     let t = c.args.triangle in
     on_flat c.args.pen t c.none.result (none c.turn-area.result (turns t.a t.b t.c) (search rules) c.turn-area.ensures.value c.if-area-eq0.true) c.none.ensures
 
-pub boxed-requires : goal.boxed-requires
-boxed-requires c = let p = c.requires in rw c.turned.ensures (record { a = p.a; b = p.c; c = p.b })
-
 pub returns-then-area-lt0 : goal.returns-then-area-lt0
 returns-then-area-lt0 c =
     let t = c.args.triangle in
