@@ -11,17 +11,7 @@ use Rattle.fixed_point.proofs.Bounds.{plain_mul, mul_mag, add_mag, down_mag, dow
 abbrev pub kept : ℤ → ℤ
 kept z = to_z w128 (of_z w128 z)
 
--- a product of two numbers of 32 bits
-pub term_is : (r f g a b : ℤ) → SFits w32 a → SFits w32 b → SFits w64 f → SFits w64 g → f ≡ to_z w32 (of_z w32 a) → g ≡ to_z w32 (of_z w32 b) →
-    r ≡ to_z w64 (of_z w64 f) *ℤ to_z w64 (of_z w64 g) → (r ≡ a *ℤ b) × (mag r ≤ 2 ^ 62)
-term_is r f g a b fa fb ff fg ef eg e =
-    let ef' : f ≡ a = simp to_z-of_z at ef in
-    let eg' : g ≡ b = simp to_z-of_z at eg in
-    let e' = plain_mul w64 r f g ff fg e in
-    let is : r ≡ a *ℤ b = cc in
-    (is, subst (λ z. mag z ≤ 2 ^ 62) (sym is) (mul_mag a b (2 ^ 31) (2 ^ 31) fa.sfits fb.sfits))
-
--- four such products, summed from the left
+-- four products of two numbers of 32 bits, summed from the left
 pub record Sums (p q r s : ℤ) : Type 0 where
   pub two : SFits w128 (kept p +ℤ kept q)
   pub three : SFits w128 (kept (kept p +ℤ kept q) +ℤ kept r)

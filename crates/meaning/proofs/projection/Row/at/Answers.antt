@@ -6,9 +6,6 @@ use Rattle.meaning.specs.Meaning.{along}
 use Rattle.meaning.proofs.Rows.{sums, floor_is, narrow_64}
 use Rattle.meaning.proofs.projection.Row.at.Goals as goal
 
-pub overflow_add-sum : goal.overflow_add-sum
-overflow_add-sum c = (sums c.term.result c.term-2.result (pos 0) (pos 0) c.term.ensures.bound c.term-2.ensures.bound (omega arith) (omega arith)).two
-
 pub overflow_add-sum-2 : goal.overflow_add-sum-2
 overflow_add-sum-2 c = (sums c.term.result c.term-2.result c.term-3.result (pos 0) c.term.ensures.bound c.term-2.ensures.bound c.term-3.ensures.bound (omega arith)).three
 
