@@ -5,6 +5,7 @@ ghost use Rattle.reference.specs.Made.{Made, SamePictures};
 
 use crate::picture::paint_picture;
 use codec::refusal::Refusal;
+use reference::canvas::Canvas;
 use reference::job::admit;
 use reference::lengths::Lengths;
 
@@ -23,6 +24,11 @@ pub fn make(
     ensures same { SamePictures file.now colours.old depths.old work.old shown.old result shown.new }
 {
     let job = admit(file, Lengths::of(colours, depths, work, shown))?;
-    paint_picture(job.file, colours, depths, shown);
+    let mut canvas = Canvas {
+        colours,
+        depths,
+        shown,
+    };
+    paint_picture(job.file, &mut canvas);
     Ok(job.shows)
 }

@@ -7,6 +7,7 @@ ghost use Rattle.maker.specs.Tiles.{Painted, whole};
 use crate::tiles::paint_tile;
 use codec::taken::TakenFile;
 use meaning::pen::Frame;
+use reference::canvas::Canvas;
 
 // Few enough dots for a tile to stay in the cache during all commands.
 const TILE: u16 = 16;
@@ -19,17 +20,11 @@ fn tile_end(start: u16, edge: u16) -> u16
 }
 
 // A row of tiles.
-fn paint_band(
-    file: TakenFile<'_>,
-    band: Frame,
-    colours: &mut [u8],
-    depths: &mut [u16],
-    shown: &mut [u8],
-)
+fn paint_band(file: TakenFile<'_>, band: Frame, canvas: &mut Canvas<'_>)
     requires across { band.left ≤ band.right }
     requires inside { band.bottom ≤ file.summary.size.height }
-    requires room { RoomFor file colours.old depths.old shown.old }
-    ensures { Painted file.entry band colours.old depths.old shown.old colours.new depths.new shown.new }
+    requires room { RoomFor file canvas.old }
+    ensures { Painted file.entry band canvas.old canvas.new }
 {
     for left in (band.left..band.right).step_by(usize::from(TILE)) {
         let tile = Frame {
@@ -37,19 +32,14 @@ fn paint_band(
             right: tile_end(left, band.right),
             ..band
         };
-        paint_tile(file, tile, colours, depths, shown);
+        paint_tile(file, tile, canvas);
     }
 }
 
 // The whole picture, band by band.
-pub(crate) fn paint_picture(
-    file: TakenFile<'_>,
-    colours: &mut [u8],
-    depths: &mut [u16],
-    shown: &mut [u8],
-)
-    requires { RoomFor file colours.old depths.old shown.old }
-    ensures { Painted file.entry (whole file.entry.summary.size) colours.old depths.old shown.old colours.new depths.new shown.new }
+pub(crate) fn paint_picture(file: TakenFile<'_>, canvas: &mut Canvas<'_>)
+    requires { RoomFor file canvas.old }
+    ensures { Painted file.entry (whole file.entry.summary.size) canvas.old canvas.new }
 {
     let size = file.summary.size;
     for top in (0..size.height).step_by(usize::from(TILE)) {
@@ -59,6 +49,6 @@ pub(crate) fn paint_picture(
             right: size.width,
             bottom: tile_end(top, size.height),
         };
-        paint_band(file, band, colours, depths, shown);
+        paint_band(file, band, canvas);
     }
 }

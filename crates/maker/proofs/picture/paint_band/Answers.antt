@@ -7,10 +7,10 @@ loop-left-preserved c =
     let a = c.args in
     let b = a.band in
     let o = c.loop-left in
-    let p = c.paint_tile.new in
+    let p = c.paint_tile.new.canvas in
     let e : min o.left b.right ≡ o.left = omega arith in
     let n : c.tile_end.result ≡ min (o.left + c.from-left-step.result) b.right = omega (arith, c.tile_end.ensures, c.from-left-step.ensures) in
-    (omega arith, rw (← n) (tile_more a.file b.left b.top c.tile_end.result b.bottom a.colours.now a.depths.now a.shown.now o.colours o.depths o.shown p.colours p.depths p.shown o.left (omega arith) (omega (arith, c.tile_end.ensures)) (rw e at o.invariant.1) c.paint_tile.ensures))
+    (omega arith, rw (← n) (tile_more a.file b.left b.top c.tile_end.result b.bottom a.canvas.now o.canvas p o.left (omega arith) (omega (arith, c.tile_end.ensures)) (rw e at o.invariant.1) c.paint_tile.ensures))
 
 pub returns : goal.returns
 returns c =
@@ -21,7 +21,7 @@ returns-2 c =
     let a = c.args in
     let b = a.band in
     let o = c.loop-left in
-    let p = c.paint_tile.new in
+    let p = c.paint_tile.new.canvas in
     let e : min o.left b.right ≡ o.left = omega arith in
     let n : c.tile_end.result ≡ b.right = omega (arith, c.tile_end.ensures, c.from-left-step.ensures) in
-    rw (← n) (tile_more a.file b.left b.top c.tile_end.result b.bottom a.colours.now a.depths.now a.shown.now o.colours o.depths o.shown p.colours p.depths p.shown o.left (omega arith) (omega (arith, c.tile_end.ensures)) (rw e at o.invariant.1) c.paint_tile.ensures)
+    rw (← n) (tile_more a.file b.left b.top c.tile_end.result b.bottom a.canvas.now o.canvas p o.left (omega arith) (omega (arith, c.tile_end.ensures)) (rw e at o.invariant.1) c.paint_tile.ensures)

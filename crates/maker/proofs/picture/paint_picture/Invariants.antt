@@ -4,4 +4,4 @@ use Rattle.maker.proofs.picture.paint_picture.Given as goal
 
 abbrev pub invariant-loop-top : goal.invariant-loop-top
 invariant-loop-top l =
-    Painted l.file (record { left = 0; top = 0; right = l.size.width; bottom = min l.top l.size.height }) l.initial.colours l.initial.depths l.initial.shown l.colours l.depths l.shown
+    Painted l.file (record { left = 0; top = 0; right = l.size.width; bottom = min l.top l.size.height }) l.initial.canvas l.canvas
