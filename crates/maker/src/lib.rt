@@ -5,7 +5,9 @@ ghost use Rattle.reference.specs.Made.{Made, SamePictures};
 
 use crate::picture::paint_picture;
 use codec::refusal::Refusal;
+use reference::canvas::Canvas;
 use reference::job::admit;
+use reference::lengths::Lengths;
 
 mod picture;
 mod tiles;
@@ -21,7 +23,12 @@ pub fn make(
     ensures made { Made file.now colours.old depths.old work.old shown.old result colours.new depths.new work.new shown.new }
     ensures same { SamePictures file.now colours.old depths.old work.old shown.old result shown.new }
 {
-    let job = admit(file, colours.len(), depths.len(), work.len(), shown.len())?;
-    paint_picture(file, job.summary, colours, depths, shown);
+    let job = admit(file, Lengths::of(colours, depths, work, shown))?;
+    let mut canvas = Canvas {
+        colours,
+        depths,
+        shown,
+    };
+    paint_picture(job.file, &mut canvas);
     Ok(job.shows)
 }

@@ -2,17 +2,16 @@
 ghost use Rattle.std.specs.Prelude.{◌≡◌, ◌+◌, ◌<◌, ◌≤◌, true};
 ghost use Rattle.meaning.specs.Numbers.{kind_number};
 ghost use Rattle.codec.specs.Kinds.{built_yet};
-ghost use Rattle.codec.specs.Shows.{counts, shows};
-ghost use Rattle.codec.specs.Walk.{There, listed};
-ghost use Rattle.reference.specs.Shows.{Room};
+ghost use Rattle.codec.specs.Shows.{counts};
+ghost use Rattle.reference.specs.Dots.{RoomOn, RoomFor};
 ghost use Rattle.maker.specs.Tiles.{Obeyed, Painted};
 
-use codec::summary::Summary;
-use codec::walk::{before_commands, next};
+use codec::taken::TakenFile;
 use meaning::command::Command;
 use meaning::pen::{Frame, Pen};
 use meaning::projection::View;
 use meaning::state::{Dot, Size, State};
+use reference::canvas::Canvas;
 use tile::boxes::{clear_box, meet, show_box};
 
 // What holds between two commands: the pen, the view, and how many pictures were shown.
@@ -29,29 +28,34 @@ fn obey(
     context: Context,
     size: Size,
     tile: Frame,
-    colours: &mut [u8],
-    depths: &mut [u16],
-    shown: &mut [u8],
+    canvas: &mut Canvas<'_>,
 ) -> Context
     requires kind { built_yet (kind_number command) ≡ true }
     requires inside { tile.bottom ≤ size.height }
     requires few { context.shown < 65535 }
-    requires room { Room size (context.shown + counts command) colours.old depths.old shown.old }
+    requires room { RoomOn size (context.shown + counts command) canvas.old }
     ensures few { result.shown ≤ context.shown + 1 }
-    ensures obeyed { Obeyed command size tile context colours.old depths.old shown.old result colours.new depths.new shown.new }
+    ensures obeyed { Obeyed command size tile context canvas.old result canvas.new }
 {
     match command {
         Command::Pen(pen) => Context { pen, ..context },
         Command::Look(view) => Context { view, ..context },
         Command::Clear { colour, depth } => {
             let frame = meet(tile, context.pen.frame);
-            clear_box(colours, depths, size, frame, Dot { colour, depth });
+            clear_box(
+                canvas.colours,
+                canvas.depths,
+                size,
+                frame,
+                Dot { colour, depth },
+            );
             context
         }
         // Files with triangles are refused yet.
         Command::Triangles(_) => unreachable(),
         Command::Show => {
-            show_box(colours, shown, size, tile, context.shown);
+            let colours = &mut *canvas.colours;
+            show_box(colours, canvas.shown, size, tile, context.shown);
             Context {
                 shown: context.shown + 1,
                 ..context
@@ -61,29 +65,20 @@ fn obey(
 }
 
 // All commands on a tile, from the beginning.
-pub(crate) fn paint_tile(
-    file: &[u8],
-    summary: Summary,
-    tile: Frame,
-    colours: &mut [u8],
-    depths: &mut [u16],
-    shown: &mut [u8],
-)
-    requires there { There file.now summary }
-    requires inside { tile.bottom ≤ summary.size.height }
-    requires room { Room summary.size (shows (listed file.now summary)) colours.old depths.old shown.old }
-    ensures { Painted file.now summary tile colours.old depths.old shown.old colours.new depths.new shown.new }
+pub(crate) fn paint_tile(file: TakenFile<'_>, tile: Frame, canvas: &mut Canvas<'_>)
+    requires inside { tile.bottom ≤ file.summary.size.height }
+    requires room { RoomFor file canvas.old }
+    ensures { Painted file.entry tile canvas.old canvas.new }
 {
-    let begin = State::begin(summary.size);
-    clear_box(colours, depths, summary.size, tile, begin.dot);
+    let size = file.summary.size;
+    let begin = State::begin(size);
+    clear_box(canvas.colours, canvas.depths, size, tile, begin.dot);
     let mut context = Context {
         pen: begin.pen,
         view: begin.view,
         shown: 0,
     };
-    let mut reader = before_commands(file, summary);
-    for _ in 0..summary.commands {
-        let command = next(&mut reader, summary);
-        context = obey(command, context, summary.size, tile, colours, depths, shown);
+    for command in file.commands() {
+        context = obey(command, context, size, tile, canvas);
     }
 }

@@ -7,4 +7,5 @@ pub mod Steps
 pub mod Entering
 pub mod Built
 pub mod EachDot
+pub mod Canvases
 pub mod Changes

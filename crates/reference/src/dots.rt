@@ -7,6 +7,7 @@ ghost use Rattle.reference.specs.Boxes.{in_box};
 ghost use Rattle.reference.specs.Shows.{seen_dots, no_dot, Pictures};
 ghost use Rattle.reference.specs.Dots.{RoomFor, Drawn};
 
+use crate::canvas::Canvas;
 use crate::places::{place_of, put_colour, put_dot};
 use codec::taken::TakenFile;
 use meaning::command::Command;
@@ -34,45 +35,34 @@ fn obey_all(file: TakenFile<'_>, i: u16, j: u16, shown: &mut [u8]) -> Dot
 }
 
 // Dot (i, j) of every picture.
-fn mean_dot(
-    file: TakenFile<'_>,
-    i: u16,
-    j: u16,
-    colours: &mut [u8],
-    depths: &mut [u16],
-    shown: &mut [u8],
-)
-    requires room { RoomFor file colours.old depths.old shown.old }
+fn mean_dot(file: TakenFile<'_>, i: u16, j: u16, canvas: &mut Canvas<'_>)
+    requires room { RoomFor file canvas.old }
     requires across { i < file.summary.size.width }
     requires down { j < file.summary.size.height }
-    ensures { Drawn file.entry (in_box i j (i + 1) (j + 1)) colours.old depths.old shown.old colours.new depths.new shown.new }
+    ensures { Drawn file.entry (in_box i j (i + 1) (j + 1)) canvas.old canvas.new }
 {
-    let dot = obey_all(file, i, j, shown);
-    put_dot(colours, depths, place_of(file.summary.size, 0, i, j), dot);
+    let dot = obey_all(file, i, j, canvas.shown);
+    let place = place_of(file.summary.size, 0, i, j);
+    put_dot(canvas.colours, canvas.depths, place, dot);
 }
 
 // Row j of every picture.
-fn mean_row(file: TakenFile<'_>, j: u16, colours: &mut [u8], depths: &mut [u16], shown: &mut [u8])
-    requires room { RoomFor file colours.old depths.old shown.old }
+fn mean_row(file: TakenFile<'_>, j: u16, canvas: &mut Canvas<'_>)
+    requires room { RoomFor file canvas.old }
     requires down { j < file.summary.size.height }
-    ensures { Drawn file.entry (in_box 0 j file.entry.summary.size.width (j + 1)) colours.old depths.old shown.old colours.new depths.new shown.new }
+    ensures { Drawn file.entry (in_box 0 j file.entry.summary.size.width (j + 1)) canvas.old canvas.new }
 {
     for i in 0..file.summary.size.width {
-        mean_dot(file, i, j, colours, depths, shown);
+        mean_dot(file, i, j, canvas);
     }
 }
 
 // All rows of every picture.
-pub(crate) fn mean_rows(
-    file: TakenFile<'_>,
-    colours: &mut [u8],
-    depths: &mut [u16],
-    shown: &mut [u8],
-)
-    requires { RoomFor file colours.old depths.old shown.old }
-    ensures { Drawn file.entry (in_box 0 0 file.entry.summary.size.width file.entry.summary.size.height) colours.old depths.old shown.old colours.new depths.new shown.new }
+pub(crate) fn mean_rows(file: TakenFile<'_>, canvas: &mut Canvas<'_>)
+    requires { RoomFor file canvas.old }
+    ensures { Drawn file.entry (in_box 0 0 file.entry.summary.size.width file.entry.summary.size.height) canvas.old canvas.new }
 {
     for j in 0..file.summary.size.height {
-        mean_row(file, j, colours, depths, shown);
+        mean_row(file, j, canvas);
     }
 }

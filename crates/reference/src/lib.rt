@@ -3,11 +3,13 @@
 
 ghost use Rattle.reference.specs.Made.{Made, SamePictures};
 
+use crate::canvas::Canvas;
 use crate::dots::mean_rows;
 use crate::job::admit;
 use crate::lengths::Lengths;
 use codec::refusal::Refusal;
 
+pub mod canvas;
 mod dots;
 pub mod job;
 pub mod laws;
@@ -27,6 +29,11 @@ pub fn mean(
     ensures same { SamePictures file.now colours.old depths.old work.old shown.old result shown.new }
 {
     let job = admit(file, Lengths::of(colours, depths, work, shown))?;
-    mean_rows(job.file, colours, depths, shown);
+    let mut canvas = Canvas {
+        colours,
+        depths,
+        shown,
+    };
+    mean_rows(job.file, &mut canvas);
     Ok(job.shows)
 }

@@ -1,6 +1,5 @@
-use Rattle.std.proofs.Common.{ℕ, Ok, Err, Result, sym, ap, ◌∙◌, subst, rules}
+use Rattle.std.proofs.Common.{rules}
 use Rattle.std.proofs.lemmas.Result.{err_from_is_err_and}
-use Rattle.codec.specs.declared.refusal.Refusal.{Refusal}
 use Rattle.reference.specs.Made.{Made}
 use Rattle.reference.proofs.Entering.{made_none, made_all, made_is_meant}
 use Rattle.maker.proofs.make.Goals as goal
@@ -8,28 +7,19 @@ use Rattle.maker.proofs.make.Goals as goal
 pub returns-in_err-job : goal.returns-in_err-job
 returns-in_err-job c =
     let a = c.args in
-    let r = c.from_residual.result in
-    let e = err_from_is_err_and r c.from_residual.ensures.1 in
-    let m = subst (λ (x : Result ℕ Refusal). Made a.file.now a.colours.now a.depths.now a.work.now a.shown.now x a.colours.now a.depths.now a.work.now a.shown.now)
-    (sym (e.1 ∙ ap (λ (x : Refusal). Err x) e.2)) (made_none a.file.now a.colours.now a.depths.now a.work.now a.shown.now _ c.in_err-job.ensures) in
-    record {
-      made = m;
-      same = made_is_meant a.file.now a.colours.now a.depths.now a.work.now a.shown.now r a.colours.now a.depths.now a.work.now a.shown.now m;
-    }
-
-pub paint_picture-requires : goal.paint_picture-requires
-paint_picture-requires c =
-    let h = c.in_ok-job.ensures in
-    record { there = h.there; room = record { colours = h.colours; depths = h.depths; shown = h.room } }
+    let e = c.of.ensures in
+    let p = err_from_is_err_and c.from_residual.result c.from_residual.ensures.1 in
+    let made : Made a.file.now a.colours.now a.depths.now a.work.now a.shown.now c.from_residual.result a.colours.now a.depths.now a.work.now a.shown.now =
+    rw (p.1, p.2) (made_none a.file.now a.work.now (record { colours = a.colours; depths = a.depths; shown = a.shown }) c.of.result e.colours e.depths e.work e.shown _ c.in_err-job.ensures) in
+    record { made = made; same = made_is_meant a.file.now a.colours.now a.depths.now a.work.now a.shown.now c.from_residual.result a.colours.now a.depths.now a.work.now a.shown.now made }
 
 pub returns : goal.returns
 returns c =
     let a = c.args in
-    let j = c.in_ok-job.job in
-    let p = c.paint_picture.new in
-    let h = c.in_ok-job.ensures in
-    let m = made_all a.file.now a.colours.now a.depths.now a.work.now a.shown.now j p.colours p.depths a.work.now p.shown h (search rules) (search rules) (search rules) (c.paint_picture.ensures h.images) in
-    record {
-      made = m;
-      same = made_is_meant a.file.now a.colours.now a.depths.now a.work.now a.shown.now (Ok j.shows) p.colours p.depths a.work.now p.shown m;
-    }
+    let e = c.of.ensures in
+    let o = c.paint_picture.ensures in
+    let n = o.same.colours.name in
+    let m = o.same.depths.name in
+    let k = o.same.shown.name in
+    let made = made_all a.file.now a.work.now _ c.of.result e.colours e.depths e.work e.shown c.in_ok-job.job c.paint_picture.new.canvas _ _ _ c.in_ok-job.ensures o (search rules) (search rules) (search rules) in
+    record { made = made; same = made_is_meant a.file.now a.colours.now a.depths.now a.work.now a.shown.now _ _ _ a.work.now _ made }

@@ -1,9 +1,10 @@
-use Rattle.std.proofs.Common.{◌≡◌, refl, ◌∙◌, subst, arith, rules}
+use Rattle.std.proofs.Common.{◌≡◌, refl, ◌∙◌, subst, rules}
 use Rattle.meaning.specs.declared.command.Command.{Command}
 use Rattle.meaning.specs.declared.command.Command.TheVariants.{Pen, Look, Clear, Triangles, Show}
 use Rattle.meaning.specs.Meaning.{Instruction, pen, look, clear, triangles, show, in_frame}
 use Rattle.meaning.specs.Numbers.{header}
-use Rattle.reference.proofs.Steps.{through_pen, through_look, through_clear, through_show}
+use Rattle.reference.proofs.Steps.{through_pen, through_clear, through_show}
+use Rattle.reference.proofs.Canvases.{same_slices}
 use Rattle.maker.proofs.tiles.obey.Goals as goal
 
 -- the instruction that a command stands for, unless it has triangles
@@ -24,48 +25,40 @@ stands show = refl
 said : (x : Instruction) (c d : Command) → header x ≡ c → c ≡ d → Stands d x
 said x c d e f = subst (λ (k : Command). Stands k x) (e ∙ f) (stands x)
 
-pub returns-in-Pen : goal.returns-in-Pen
-returns-in-Pen c =
+pub returns-in-Pen-clause-obeyed : goal.returns-in-Pen-clause-obeyed
+returns-in-Pen-clause-obeyed c =
     let a = c.args in
     let x = a.context in
+    let y = a.canvas.now in
     record {
-      few = omega arith;
-      obeyed = λ ts cs left next C D S e o.
-          through_pen ts a.size cs (in_frame a.tile) C D S left x.pen x.view x.shown a.colours.now a.depths.now a.shown.now c.in-Pen.pen
+      same = same_slices y;
+      is = λ ts cs left next m e o.
+          through_pen ts a.size cs (in_frame a.tile) m.colours.now m.depths.now m.shown.now left x.pen x.view x.shown y.colours.now y.depths.now y.shown.now c.in-Pen.pen
           (rw (said next a.command (Pen c.in-Pen.pen) e c.in-Pen.is) at o);
     }
 
-pub returns-in-Look : goal.returns-in-Look
-returns-in-Look c =
+pub returns-in-Clear-clause-obeyed : goal.returns-in-Clear-clause-obeyed
+returns-in-Clear-clause-obeyed c =
     let a = c.args in
     let x = a.context in
+    let y = a.canvas.now in
     record {
-      few = omega arith;
-      obeyed = λ ts cs left next C D S e o.
-          through_look ts a.size cs (in_frame a.tile) C D S left x.pen x.view x.shown a.colours.now a.depths.now a.shown.now c.in-Look.view
-          (rw (said next a.command (Look c.in-Look.view) e c.in-Look.is) at o);
-    }
-
-pub returns-in-Clear : goal.returns-in-Clear
-returns-in-Clear c =
-    let a = c.args in
-    let x = a.context in
-    record {
-      few = omega arith;
-      obeyed = λ ts cs left next C D S e o.
-          through_clear ts a.size cs (in_frame a.tile) C D S left x.pen x.view x.shown a.colours.now a.depths.now a.shown.now
+      same = record { colours = record { name = refl; long = search rules }; depths = record { name = refl; long = search rules }; shown = record { name = refl; long = refl } };
+      is = λ ts cs left next m e o.
+          through_clear ts a.size cs (in_frame a.tile) m.colours.now m.depths.now m.shown.now left x.pen x.view x.shown y.colours.now y.depths.now y.shown.now
           (in_frame c.meet-frame.result) c.in-Clear.colour c.in-Clear.depth c.clear_box.new.colours c.clear_box.new.depths (search rules)
           c.meet-frame.ensures.is c.clear_box.ensures.colours c.clear_box.ensures.depths
           (rw (said next a.command (Clear c.in-Clear.colour c.in-Clear.depth) e c.in-Clear.is) at o);
     }
 
-pub returns-in-Show : goal.returns-in-Show
-returns-in-Show c =
+pub returns-in-Show-clause-obeyed : goal.returns-in-Show-clause-obeyed
+returns-in-Show-clause-obeyed c =
     let a = c.args in
     let x = a.context in
+    let y = a.canvas.now in
     record {
-      few = omega arith;
-      obeyed = λ ts cs left next C D S e o.
-          through_show ts a.size cs (in_frame a.tile) C D S left x.pen x.view x.shown a.colours.now a.depths.now a.shown.now c.show_box.new.shown c.show_box.ensures
+      same = record { colours = record { name = refl; long = refl }; depths = record { name = refl; long = refl }; shown = record { name = refl; long = search rules } };
+      is = λ ts cs left next m e o.
+          through_show ts a.size cs (in_frame a.tile) m.colours.now m.depths.now m.shown.now left x.pen x.view x.shown y.colours.now y.depths.now y.shown.now c.show_box.new.shown c.show_box.ensures
           (rw (said next a.command Show e c.in-Show.is) at o);
     }

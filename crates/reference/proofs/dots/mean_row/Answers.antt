@@ -1,22 +1,23 @@
 use Rattle.std.proofs.Common.{◌≡◌, ℕ, ◌+◌, subst, arith}
-use Rattle.codec.specs.Taken.{commands_of}
 use Rattle.reference.specs.Boxes.{in_box}
 use Rattle.reference.specs.Dots.{Drawn}
-use Rattle.reference.proofs.Regions.{region_more, across}
+use Rattle.reference.proofs.Regions.{across}
+use Rattle.reference.proofs.Canvases.{room_still, drawn_more}
 use Rattle.reference.proofs.dots.mean_row.Goals as goal
+
+pub mean_dot-requires-clause-room : goal.mean_dot-requires-clause-room
+mean_dot-requires-clause-room c = room_still c.args.file c.args.canvas.now c.loop-i.canvas c.loop-i.invariant.same c.requires.room
 
 pub loop-i-preserved : goal.loop-i-preserved
 loop-i-preserved c =
     let a = c.args in
     let o = c.loop-i in
-    λ ts. region_more ts a.file.summary.size (commands_of a.file) a.colours.now a.depths.now a.shown.now
-    (in_box 0 a.j o.i (a.j + 1)) (in_box o.i a.j (o.i + 1) (a.j + 1)) (in_box 0 a.j (o.i + 1) (a.j + 1))
-    o.colours o.depths o.shown c.mean_dot.new.colours c.mean_dot.new.depths c.mean_dot.new.shown
-    (across 0 o.i (o.i + 1) a.j (a.j + 1) (omega arith) (omega arith)) (o.invariant ts) (c.mean_dot.ensures ts)
+    drawn_more a.file (in_box 0 a.j o.i (a.j + 1)) (in_box o.i a.j (o.i + 1) (a.j + 1)) (in_box 0 a.j (o.i + 1) (a.j + 1)) a.canvas.now o.canvas c.mean_dot.new.canvas
+    (across 0 o.i (o.i + 1) a.j (a.j + 1) (omega arith) (omega arith)) o.invariant c.mean_dot.ensures
 
 pub returns : goal.returns
 returns c =
     let a = c.args in
     let o = c.loop-i in
     let e : o.i ≡ a.file.summary.size.width = omega arith in
-    subst (λ (m : ℕ). Drawn a.file (in_box 0 a.j m (a.j + 1)) a.colours.now a.depths.now a.shown.now o.colours o.depths o.shown) e o.invariant
+    subst (λ (m : ℕ). Drawn a.file (in_box 0 a.j m (a.j + 1)) a.canvas.now o.canvas) e o.invariant

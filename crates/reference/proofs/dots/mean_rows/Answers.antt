@@ -1,23 +1,24 @@
 use Rattle.std.proofs.Common.{◌≡◌, ℕ, ◌+◌, subst, arith}
-use Rattle.codec.specs.Taken.{commands_of}
 use Rattle.reference.specs.Boxes.{in_box}
 use Rattle.reference.specs.Dots.{Drawn}
-use Rattle.reference.proofs.Regions.{region_more, down}
+use Rattle.reference.proofs.Regions.{down}
+use Rattle.reference.proofs.Canvases.{room_still, drawn_more}
 use Rattle.reference.proofs.dots.mean_rows.Goals as goal
+
+pub mean_row-requires-clause-room : goal.mean_row-requires-clause-room
+mean_row-requires-clause-room c = room_still c.args.file c.args.canvas.now c.loop-j.canvas c.loop-j.invariant.same c.requires
 
 pub loop-j-preserved : goal.loop-j-preserved
 loop-j-preserved c =
     let a = c.args in
     let o = c.loop-j in
     let w = a.file.summary.size.width in
-    λ ts. region_more ts a.file.summary.size (commands_of a.file) a.colours.now a.depths.now a.shown.now
-    (in_box 0 0 w o.j) (in_box 0 o.j w (o.j + 1)) (in_box 0 0 w (o.j + 1))
-    o.colours o.depths o.shown c.mean_row.new.colours c.mean_row.new.depths c.mean_row.new.shown
-    (down 0 w 0 o.j (o.j + 1) (omega arith) (omega arith)) (o.invariant ts) (c.mean_row.ensures ts)
+    drawn_more a.file (in_box 0 0 w o.j) (in_box 0 o.j w (o.j + 1)) (in_box 0 0 w (o.j + 1)) a.canvas.now o.canvas c.mean_row.new.canvas
+    (down 0 w 0 o.j (o.j + 1) (omega arith) (omega arith)) o.invariant c.mean_row.ensures
 
 pub returns : goal.returns
 returns c =
     let a = c.args in
     let o = c.loop-j in
     let e : o.j ≡ a.file.summary.size.height = omega arith in
-    subst (λ (m : ℕ). Drawn a.file (in_box 0 0 a.file.summary.size.width m) a.colours.now a.depths.now a.shown.now o.colours o.depths o.shown) e o.invariant
+    subst (λ (m : ℕ). Drawn a.file (in_box 0 0 a.file.summary.size.width m) a.canvas.now o.canvas) e o.invariant
