@@ -3,14 +3,9 @@ use Rattle.meaning.specs.Meaning.{middle}
 use Rattle.meaning.specs.Textures.{image_if}
 use Rattle.coverage.specs.Walks.{SeenFrom, plus, painting}
 use Rattle.coverage.proofs.Triangles.{seen_fit, seen_across, seen_down, covers_is, past_all, stays}
-use Rattle.coverage.proofs.Regions.{none_above, none_before, dot_more, dot_skipped, row_more, all_above}
+use Rattle.coverage.proofs.Regions.{dot_more, dot_skipped, row_more, all_above}
 use Rattle.coverage.proofs.cover.Goals as goal
 use Rattle.coverage.proofs.cover.Goals.{then-holds, else-holds+else-is_passed}
-
-pub rows-init : goal.rows-init
-rows-init c =
-    let a = c.args in
-    (c.sides_at-first.ensures, none_above a.size.width a.frame (painting (image_if a.brush.texture) a.brush.pen c.of-outline.result.triangle) a.colours.now a.depths.now)
 
 pub plus-first-requires : goal.plus-first-requires
 plus-first-requires c =
@@ -20,11 +15,6 @@ plus-first-requires c =
     let x : Fits w16 f.left = search rules in
     let y : Fits w16 f.bottom = search rules in
     seen_fit o f.left (j + 1) (plus c.rows.first o.down) (omega arith) (omega arith) (seen_down o f.left j c.rows.first c.rows.invariant.0)
-
-pub loop-i-init : goal.loop-i-init
-loop-i-init c =
-    let a = c.args in
-    (c.rows.invariant.0, none_before a.size.width a.frame (painting (image_if a.brush.texture) a.brush.pen c.of-outline.result.triangle) c.rows.colours c.rows.depths c.rows.j)
 
 pub fragment-fragment-requires : goal.fragment-fragment-requires
 fragment-fragment-requires c =

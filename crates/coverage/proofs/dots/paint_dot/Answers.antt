@@ -11,18 +11,6 @@ use Rattle.reference.proofs.EachDot.{dot_colours, dot_depths}
 use Rattle.coverage.specs.Spots.{spot}
 use Rattle.coverage.proofs.dots.paint_dot.Goals as goal
 
-pub dot_at-requires : goal.dot_at-requires
-dot_at-requires c =
-    let a = c.args in
-    let room = row_below a.size.width a.j a.size.height c.requires.down in
-    record { colours = omega arith; depths = omega arith }
-
-pub put_dot-requires : goal.put_dot-requires
-put_dot-requires c =
-    let a = c.args in
-    let room = row_below a.size.width a.j a.size.height c.requires.down in
-    record { colours = omega arith; depths = omega arith }
-
 pub returns : goal.returns
 unfolding if_covered
 returns c =
