@@ -21,26 +21,16 @@ use Rattle.meaning.proofs.Depths.{turns_back}
 
 module _ (t : Option Image) (a b c : Point) (m : Place) (l : List ℕ) (u v : ℕ) (eu : u ≡ blended a b c m a.u b.u c.u) (ev : v ≡ blended a b c m a.v b.v c.v)
     (el : l ≡ texels t u v) where
-  -- the texture's dot, part by part
   dots : l ≡ texels t (blended a b c m a.u b.u c.u) (blended a b c m a.v b.v c.v)
   dots = el ∙ ap (λ (i : ℕ). texels t i v) eu ∙ ap (λ (i : ℕ). texels t (blended a b c m a.u b.u c.u) i) ev
 
-  brought : (k : ℕ) (r p : ℕ) → get_or l k 0 ≡ texel t (blended a b c m a.u b.u c.u) (blended a b c m a.v b.v c.v) k →
-      p ≡ colour_at a b c m k → r ≡ (p * get_or l k 0 + 127) / 255 → r ≡ brings t a b c m k
+  -- part k of the colour, where the texture's dot has a part k
+  pub brought : (k : ℕ) → ((i j : ℕ) → get_or (texels t i j) k 0 ≡ texel t i j k) →
+      (r p : ℕ) → p ≡ colour_at a b c m k → r ≡ (p * get_or l k 0 + 127) / 255 → r ≡ brings t a b c m k
   unfolding brings
-  brought k r p e f g = g ∙ ap (λ (i : ℕ). (p * i + 127) / 255) e ∙ ap (λ (i : ℕ). (i * texel t (blended a b c m a.u b.u c.u) (blended a b c m a.v b.v c.v) k + 127) / 255) f
-
-  pub brought_0 : (r p : ℕ) → p ≡ colour_at a b c m 0 → r ≡ (p * get_or l 0 0 + 127) / 255 → r ≡ brings t a b c m 0
-  brought_0 r p = brought 0 r p (ap (λ (i : List ℕ). get_or i 0 0) dots)
-
-  pub brought_1 : (r p : ℕ) → p ≡ colour_at a b c m 1 → r ≡ (p * get_or l 1 0 + 127) / 255 → r ≡ brings t a b c m 1
-  brought_1 r p = brought 1 r p (ap (λ (i : List ℕ). get_or i 1 0) dots)
-
-  pub brought_2 : (r p : ℕ) → p ≡ colour_at a b c m 2 → r ≡ (p * get_or l 2 0 + 127) / 255 → r ≡ brings t a b c m 2
-  brought_2 r p = brought 2 r p (ap (λ (i : List ℕ). get_or i 2 0) dots)
-
-  pub brought_3 : (r p : ℕ) → p ≡ colour_at a b c m 3 → r ≡ (p * get_or l 3 0 + 127) / 255 → r ≡ brings t a b c m 3
-  brought_3 r p = brought 3 r p (ap (λ (i : List ℕ). get_or i 3 0) dots)
+  brought k has r p f g =
+      g ∙ ap (λ (i : ℕ). (p * i + 127) / 255) (ap (λ (i : List ℕ). get_or i k 0) dots ∙ has _ _)
+      ∙ ap (λ (i : ℕ). (i * texel t (blended a b c m a.u b.u c.u) (blended a b c m a.v b.v c.v) k + 127) / 255) f
 
 -- ---- a dot that is painted, or not
 module _ (t : Option Image) (p : Pen) (a b c : Point) (m : Place) (d : Dot) (n : ℕ) (en : n ≡ depth_at a b c m) where

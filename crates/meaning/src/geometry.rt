@@ -20,6 +20,7 @@ fn middle_along(i: u16) -> i32
 }
 
 // The middle of dot (i, j).
+// Kept: i and j stay two numbers here and in all that follows: each definition and each loop takes them one by one, so that a struct would be made and taken apart at every call.
 pub fn middle_of(i: u16, j: u16) -> Place
     ensures { result ≡ middle i j }
 {

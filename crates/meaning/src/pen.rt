@@ -8,7 +8,7 @@ ghost use Rattle.meaning.specs.declared.pen.Mix.TheVariants.{Blend};
 use crate::code::{Coded, UnknownCode};
 
 // Which new depths pass, against the old one.
-#[derive(Clone, Copy)]
+#[derive(Clone, Copy, Debug, PartialEq, Eq)]
 pub enum Test {
     Always,
     Less,
@@ -74,7 +74,7 @@ impl Test {
 }
 
 // How a new colour goes onto the old one.
-#[derive(Clone, Copy)]
+#[derive(Clone, Copy, Debug, PartialEq, Eq)]
 pub enum Mix {
     Replace,
     Blend,

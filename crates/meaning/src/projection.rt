@@ -99,6 +99,7 @@ impl View {
             colour,
         })
     }
+
     // A triangle on the picture, or nothing where a corner is hidden.
     pub fn triangle(self, corners: [Corner; 3]) -> Option<Triangle>
         ensures { result ≡ triangle_seen self (triple corners) }
