@@ -8,18 +8,17 @@ use crate::refusal::Refusal;
 
 impl<'a> Reader<'a> {
     // The next n bytes, where they lie in the file.
+    #[tactic(auto, using(crate::proofs::Places::bytes_short, crate::proofs::Places::bytes_there))]
     pub fn take(&mut self, n: usize) -> Result<&'a [u8], Refusal>
         ensures reads { Reads as_bytes (bytes n) self.old result self.new }
         ensures long { IfOk result (λ b. length b.now ≡ n) }
     {
-        let bytes = self.bytes;
-        let at = self.at;
-        if bytes.len() - at < n {
-            return Err(Refusal::Length(bytes.len()));
+        let left = &self.bytes[self.at..];
+        if left.len() < n {
+            return Err(Refusal::Length(self.bytes.len()));
         }
-        let end = at + n;
-        self.at = end;
-        Ok(&bytes[at..end])
+        self.at += n;
+        Ok(&left[..n])
     }
 
     // The next N bytes as an array.
