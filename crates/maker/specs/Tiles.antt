@@ -12,10 +12,6 @@ use Rattle.reference.specs.Shows.{Through}
 use Rattle.reference.specs.Dots.{SameSlices, Drawn}
 use Rattle.maker.specs.declared.tiles.Context.{Context}
 
--- the frame of the whole picture
-abbrev pub whole : Size → Frame
-whole s = record { left = 0; top = 0; right = s.width; bottom = s.height }
-
 -- all commands of a file were done for the dots of a frame
 abbrev pub Painted : TakenFile → Frame → Canvas → Canvas → Type 0
 Painted file f = Drawn file (in_frame f)

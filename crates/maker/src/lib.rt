@@ -3,11 +3,9 @@
 
 ghost use Rattle.reference.specs.Made.{Made, SamePictures};
 
-use crate::picture::paint_picture;
+use crate::picture::TileByTile;
 use codec::refusal::Refusal;
-use reference::canvas::Canvas;
-use reference::job::admit;
-use reference::lengths::Lengths;
+use reference::entry::pictures;
 
 mod picture;
 mod tiles;
@@ -23,12 +21,5 @@ pub fn make(
     ensures made { Made file.now colours.old depths.old work.old shown.old result colours.new depths.new work.new shown.new }
     ensures same { SamePictures file.now colours.old depths.old work.old shown.old result shown.new }
 {
-    let job = admit(file, Lengths::of(colours, depths, work, shown))?;
-    let mut canvas = Canvas {
-        colours,
-        depths,
-        shown,
-    };
-    paint_picture(job.file, &mut canvas);
-    Ok(job.shows)
+    pictures::<TileByTile>(file, colours, depths, work, shown)
 }

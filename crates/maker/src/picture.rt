@@ -2,12 +2,13 @@
 ghost use Rattle.std.specs.Prelude.{◌≡◌, ◌+◌, ◌≤◌, min};
 ghost use Rattle.reference.specs.Dots.{RoomFor};
 ghost use Rattle.maker.specs.declared.picture.TheConstants.{TILE};
-ghost use Rattle.maker.specs.Tiles.{Painted, whole};
+ghost use Rattle.maker.specs.Tiles.{Painted};
 
 use crate::tiles::paint_tile;
 use codec::taken::TakenFile;
 use meaning::pen::Frame;
 use reference::canvas::Canvas;
+use reference::entry::Draws;
 
 // Few enough dots for a tile to stay in the cache during all commands.
 const TILE: u16 = 16;
@@ -36,19 +37,20 @@ fn paint_band(file: TakenFile<'_>, band: Frame, canvas: &mut Canvas<'_>)
     }
 }
 
-// The whole picture, band by band.
-pub(crate) fn paint_picture(file: TakenFile<'_>, canvas: &mut Canvas<'_>)
-    requires { RoomFor file canvas.old }
-    ensures { Painted file.entry (whole file.entry.summary.size) canvas.old canvas.new }
-{
-    let size = file.summary.size;
-    for top in (0..size.height).step_by(usize::from(TILE)) {
-        let band = Frame {
-            left: 0,
-            top,
-            right: size.width,
-            bottom: tile_end(top, size.height),
-        };
-        paint_band(file, band, canvas);
+pub(crate) struct TileByTile;
+
+impl Draws for TileByTile {
+    // Band by band.
+    fn draw(file: TakenFile<'_>, canvas: &mut Canvas<'_>) {
+        let size = file.summary.size;
+        for top in (0..size.height).step_by(usize::from(TILE)) {
+            let band = Frame {
+                left: 0,
+                top,
+                right: size.width,
+                bottom: tile_end(top, size.height),
+            };
+            paint_band(file, band, canvas);
+        }
     }
 }

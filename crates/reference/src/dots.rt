@@ -8,6 +8,7 @@ ghost use Rattle.reference.specs.Shows.{seen_dots, no_dot, Pictures};
 ghost use Rattle.reference.specs.Dots.{RoomFor, Drawn};
 
 use crate::canvas::Canvas;
+use crate::entry::Draws;
 use crate::places::{place_of, put_colour, put_dot};
 use codec::taken::TakenFile;
 use meaning::command::Command;
@@ -57,12 +58,12 @@ fn mean_row(file: TakenFile<'_>, j: u16, canvas: &mut Canvas<'_>)
     }
 }
 
-// All rows of every picture.
-pub(crate) fn mean_rows(file: TakenFile<'_>, canvas: &mut Canvas<'_>)
-    requires { RoomFor file canvas.old }
-    ensures { Drawn file.entry (in_box 0 0 file.entry.summary.size.width file.entry.summary.size.height) canvas.old canvas.new }
-{
-    for j in 0..file.summary.size.height {
-        mean_row(file, j, canvas);
+pub(crate) struct DotByDot;
+
+impl Draws for DotByDot {
+    fn draw(file: TakenFile<'_>, canvas: &mut Canvas<'_>) {
+        for j in 0..file.summary.size.height {
+            mean_row(file, j, canvas);
+        }
     }
 }

@@ -3,14 +3,13 @@
 
 ghost use Rattle.reference.specs.Made.{Made, SamePictures};
 
-use crate::canvas::Canvas;
-use crate::dots::mean_rows;
-use crate::job::admit;
-use crate::lengths::Lengths;
+use crate::dots::DotByDot;
+use crate::entry::pictures;
 use codec::refusal::Refusal;
 
 pub mod canvas;
 mod dots;
+pub mod entry;
 pub mod job;
 pub mod laws;
 pub mod lengths;
@@ -28,12 +27,5 @@ pub fn mean(
     ensures made { Made file.now colours.old depths.old work.old shown.old result colours.new depths.new work.new shown.new }
     ensures same { SamePictures file.now colours.old depths.old work.old shown.old result shown.new }
 {
-    let job = admit(file, Lengths::of(colours, depths, work, shown))?;
-    let mut canvas = Canvas {
-        colours,
-        depths,
-        shown,
-    };
-    mean_rows(job.file, &mut canvas);
-    Ok(job.shows)
+    pictures::<DotByDot>(file, colours, depths, work, shown)
 }

@@ -1,6 +1,6 @@
 use Rattle.reference.specs.Boxes.{in_box}
 use Rattle.reference.specs.Dots.{Drawn}
-use Rattle.reference.proofs.dots.mean_rows.Given as goal
+use Rattle.reference.proofs.dots.DotByDotDraws.draw.Given as goal
 
 abbrev pub invariant-loop-j : goal.invariant-loop-j
 invariant-loop-j l =

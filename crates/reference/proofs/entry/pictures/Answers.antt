@@ -2,10 +2,10 @@ use Rattle.std.proofs.Common.{rules}
 use Rattle.std.proofs.lemmas.Result.{err_from_is_err_and}
 use Rattle.reference.specs.Made.{Made}
 use Rattle.reference.proofs.Entering.{made_none, made_all, made_is_meant}
-use Rattle.reference.proofs.mean.Goals as goal
+use Rattle.reference.proofs.entry.pictures.Goals as goal
 
 pub returns-in_err-job : goal.returns-in_err-job
-returns-in_err-job c =
+returns-in_err-job g c =
     let a = c.args in
     let e = c.of.ensures in
     let p = err_from_is_err_and c.from_residual.result c.from_residual.ensures.1 in
@@ -14,12 +14,12 @@ returns-in_err-job c =
     record { made = made; same = made_is_meant a.file.now a.colours.now a.depths.now a.work.now a.shown.now c.from_residual.result a.colours.now a.depths.now a.work.now a.shown.now made }
 
 pub returns : goal.returns
-returns c =
+returns g c =
     let a = c.args in
     let e = c.of.ensures in
-    let o = c.mean_rows.ensures in
+    let o = c.draw.ensures in
     let n = o.same.colours.name in
     let m = o.same.depths.name in
     let k = o.same.shown.name in
-    let made = made_all a.file.now a.work.now _ c.of.result e.colours e.depths e.work e.shown c.in_ok-job.job c.mean_rows.new.canvas _ _ _ c.in_ok-job.ensures o (search rules) (search rules) (search rules) in
+    let made = made_all a.file.now a.work.now _ c.of.result e.colours e.depths e.work e.shown c.in_ok-job.job c.draw.new.canvas _ _ _ c.in_ok-job.ensures o (search rules) (search rules) (search rules) in
     record { made = made; same = made_is_meant a.file.now a.colours.now a.depths.now a.work.now a.shown.now _ _ _ a.work.now _ made }

@@ -1,6 +1,6 @@
 use Rattle.std.proofs.Common.{min}
 use Rattle.maker.specs.Tiles.{Painted}
-use Rattle.maker.proofs.picture.paint_picture.Given as goal
+use Rattle.maker.proofs.picture.TileByTileDraws.draw.Given as goal
 
 abbrev pub invariant-loop-top : goal.invariant-loop-top
 invariant-loop-top l =

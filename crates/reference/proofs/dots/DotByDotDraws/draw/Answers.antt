@@ -3,7 +3,7 @@ use Rattle.reference.specs.Boxes.{in_box}
 use Rattle.reference.specs.Dots.{Drawn}
 use Rattle.reference.proofs.Regions.{down}
 use Rattle.reference.proofs.Canvases.{room_still, drawn_more}
-use Rattle.reference.proofs.dots.mean_rows.Goals as goal
+use Rattle.reference.proofs.dots.DotByDotDraws.draw.Goals as goal
 
 pub mean_row-requires-clause-room : goal.mean_row-requires-clause-room
 mean_row-requires-clause-room c = room_still c.args.file c.args.canvas.now c.loop-j.canvas c.loop-j.invariant.same c.requires

@@ -1,7 +1,7 @@
 use Rattle.std.proofs.Common.{◌≡◌, ℕ, ◌+◌, min, subst, arith}
 use Rattle.maker.specs.Tiles.{Painted}
 use Rattle.maker.proofs.Tilings.{band_more}
-use Rattle.maker.proofs.picture.paint_picture.Goals as goal
+use Rattle.maker.proofs.picture.TileByTileDraws.draw.Goals as goal
 
 pub loop-top-preserved : goal.loop-top-preserved
 loop-top-preserved c =

@@ -1,0 +1,39 @@
+// How pictures are made in lent memory, whoever draws them.
+ghost use Rattle.reference.specs.Boxes.{in_box};
+ghost use Rattle.reference.specs.Dots.{RoomFor, Drawn};
+ghost use Rattle.reference.specs.Made.{Made, SamePictures};
+
+use crate::canvas::Canvas;
+use crate::job::admit;
+use crate::lengths::Lengths;
+use codec::refusal::Refusal;
+use codec::taken::TakenFile;
+
+pub trait Draws {
+    // All commands of a file, for every dot of the picture.
+    fn draw(file: TakenFile<'_>, canvas: &mut Canvas<'_>)
+        requires { RoomFor file canvas.old }
+        ensures { Drawn file.entry (in_box 0 0 file.entry.summary.size.width file.entry.summary.size.height) canvas.old canvas.new };
+}
+
+// The pictures of a file: how many are shown, or why the file is refused. Who draws needs no more than the picture and what is shown; the length of `work` is
+// judged all the same.
+pub fn pictures<D: Draws>(
+    file: &[u8],
+    colours: &mut [u8],
+    depths: &mut [u16],
+    work: &mut [u32],
+    shown: &mut [u8],
+) -> Result<usize, Refusal>
+    ensures made { Made file.now colours.old depths.old work.old shown.old result colours.new depths.new work.new shown.new }
+    ensures same { SamePictures file.now colours.old depths.old work.old shown.old result shown.new }
+{
+    let job = admit(file, Lengths::of(colours, depths, work, shown))?;
+    let mut canvas = Canvas {
+        colours,
+        depths,
+        shown,
+    };
+    D::draw(job.file, &mut canvas);
+    Ok(job.shows)
+}
