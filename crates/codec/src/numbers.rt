@@ -98,7 +98,7 @@ impl Reader<'_> {
         ensures { Reads as_it_is (whole_number bound) self.old result self.new }
     {
         let at = self.at;
-        let bytes = self.array()?;
+        let bytes = self.array::<4>()?;
         let value = i32::from_le_bytes(bytes);
         if !is_within(value, bound) {
             return Err(Refusal::Number(at));
