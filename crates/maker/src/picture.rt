@@ -37,10 +37,10 @@ fn paint_band(file: TakenFile<'_>, band: Frame, canvas: &mut Canvas<'_>)
     }
 }
 
+// The whole picture, band by band.
 pub(crate) struct TileByTile;
 
 impl Draws for TileByTile {
-    // Band by band.
     fn draw(file: TakenFile<'_>, canvas: &mut Canvas<'_>) {
         let size = file.summary.size;
         for top in (0..size.height).step_by(usize::from(TILE)) {

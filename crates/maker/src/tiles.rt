@@ -54,6 +54,7 @@ fn obey(
         // Files with triangles are refused yet.
         Command::Triangles(_) => unreachable(),
         Command::Show => {
+            // The check has no rule for a `&` to one field while another is lent.
             let colours = &mut *canvas.colours;
             show_box(colours, canvas.shown, size, tile, context.shown);
             Context {

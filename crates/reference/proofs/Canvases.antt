@@ -4,7 +4,7 @@ use Rattle.std.proofs.Common.{◌≡◌, ℕ, Bool, ◌||◌, refl, ◌∙◌}
 use Rattle.codec.specs.declared.taken.TakenFile.{TakenFile}
 use Rattle.codec.specs.Taken.{commands_of}
 use Rattle.reference.specs.declared.canvas.Canvas.{Canvas}
-use Rattle.reference.specs.Dots.{RoomFor, SameSlices, Drawn}
+use Rattle.reference.specs.Dots.{SameSlices, Drawn}
 use Rattle.reference.proofs.Regions.{region_more}
 
 pub same_slices : (x : Canvas) → SameSlices x x
@@ -19,9 +19,6 @@ still_same x y z a b =
     }
 
 module _ (f : TakenFile) where
-  pub room_still : (x y : Canvas) → SameSlices x y → RoomFor f x → RoomFor f y
-  room_still x y a r = record { colours = rw a.colours.long r.colours; depths = rw a.depths.long r.depths; shown = rw a.shown.long r.shown }
-
   pub drawn_more : (A B R : ℕ → ℕ → Bool) (x y z : Canvas) → ((i j : ℕ) → R i j ≡ (A i j || B i j)) → Drawn f A x y → Drawn f B y z → Drawn f R x z
   drawn_more A B R x y z both a b =
       record {

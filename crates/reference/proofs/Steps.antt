@@ -8,7 +8,7 @@ use Rattle.meaning.specs.declared.projection.View.{View}
 use Rattle.meaning.specs.declared.state.Size.{Size}
 use Rattle.meaning.specs.declared.state.Dot.{Dot}
 use Rattle.meaning.specs.declared.state.State.{State}
-use Rattle.meaning.specs.Meaning.{Image, Instruction, pen, look, clear, show, in_frame, step, after, begin}
+use Rattle.meaning.specs.Meaning.{Image, Instruction, pen, clear, show, in_frame, step, after, begin}
 use Rattle.meaning.specs.Numbers.{header}
 use Rattle.codec.specs.Shows.{counts, total, shows}
 use Rattle.reference.specs.Boxes.{Colours, Depths}
@@ -73,10 +73,6 @@ module _ (ts : List Image) (s : Size) (cs : List Instruction) (R : ℕ → ℕ �
     pub through_pen : (b : Pen) → Through ts s cs R C D S (pen b ∷ left) p v n C' D' S' → Through ts s cs R C D S left b v n C' D' S'
     unfolding step
     through_pen b o = through_silent (pen b) b v C' D' refl (λ d l. refl) (λ i j m e f h. (refl, f, h)) o o.colours o.depths
-
-    pub through_look : (w : View) → Through ts s cs R C D S (look w ∷ left) p v n C' D' S' → Through ts s cs R C D S left p w n C' D' S'
-    unfolding step
-    through_look w o = through_silent (look w) p w C' D' refl (λ d l. refl) (λ i j m e f h. (e, refl, h)) o o.colours o.depths
 
     -- F is what the region and the pen's frame have in common
     pub through_clear : (F : ℕ → ℕ → Bool) (rgb : List ℕ) (z : ℕ) (C'' D'' : List ℕ) → length rgb ≡ 3 → ((i j : ℕ) → F i j ≡ (R i j && in_frame p.frame i j)) →

@@ -29,6 +29,7 @@ fn obey_all(file: TakenFile<'_>, i: u16, j: u16, shown: &mut [u8]) -> Dot
         state = state.obey(command, i, j);
         if let Command::Show = command {
             put_colour(shown, place_of(size, number, i, j), state.dot.colour);
+            // Kept: only shows are counted, so it is no index of the loop that `enumerate` would give.
             number += 1;
         }
     }
@@ -58,6 +59,7 @@ fn mean_row(file: TakenFile<'_>, j: u16, canvas: &mut Canvas<'_>)
     }
 }
 
+// All rows of every picture.
 pub(crate) struct DotByDot;
 
 impl Draws for DotByDot {

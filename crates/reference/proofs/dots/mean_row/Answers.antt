@@ -2,11 +2,8 @@ use Rattle.std.proofs.Common.{◌≡◌, ℕ, ◌+◌, subst, arith}
 use Rattle.reference.specs.Boxes.{in_box}
 use Rattle.reference.specs.Dots.{Drawn}
 use Rattle.reference.proofs.Regions.{across}
-use Rattle.reference.proofs.Canvases.{room_still, drawn_more}
+use Rattle.reference.proofs.Canvases.{drawn_more}
 use Rattle.reference.proofs.dots.mean_row.Goals as goal
-
-pub mean_dot-requires-clause-room : goal.mean_dot-requires-clause-room
-mean_dot-requires-clause-room c = room_still c.args.file c.args.canvas.now c.loop-i.canvas c.loop-i.invariant.same c.requires.room
 
 pub loop-i-preserved : goal.loop-i-preserved
 loop-i-preserved c =

@@ -1,4 +1,4 @@
-use Rattle.std.proofs.Common.{◌≡◌, ℕ, ◌*◌, ◌<◌, ◌≤◌, List, Ok, get_or, sym, ap, ◌∙◌, mul-le-mul, arith}
+use Rattle.std.proofs.Common.{◌≡◌, ℕ, ◌<◌, List, Ok, get_or, sym, ap, ◌∙◌}
 use Rattle.meaning.specs.Fits.{ListFits}
 use Rattle.codec.specs.declared.taken.TakenFile.{TakenFile}
 use Rattle.codec.specs.Judged.{judged, taken}
@@ -19,15 +19,6 @@ module _ (file : List ℕ) (t : TakenFile) (h : TakenIs file (Ok t)) where
   -- a file that is taken is in bounds
   bounds : ((k : ℕ) → get_or file k 0 < 256) → ListFits t.summary.size h.1.0 (commands_of t)
   bounds below = (written_so built_yet file t.summary.size h.1.0 (commands_of t) below verdict).0
-
-pub overflow_mul-result-9 : goal.overflow_mul-result-9
-overflow_mul-result-9 c =
-    let f = bounds c.args.file.now c.in_ok-file.file c.in_ok-file.ensures (λ k. (c.type_inv.file k).fits) in
-    let low : c.from-height.result ≤ 1024 = omega (arith, f.height, c.from-height.ensures) in
-    let narrow : c.from-width.result ≤ 1024 = omega (arith, f.width, c.from-width.ensures) in
-    let rows : c.counts-counts.result.shows * c.from-height.result ≤ 65535 * 1024 = mul-le-mul c.counts-counts.ensures.few.0 low in
-    let all : c.counts-counts.result.shows * c.from-height.result * c.from-width.result ≤ 65535 * 1024 * 1024 = mul-le-mul rows narrow in
-    record { fits = omega arith }
 
 pub returns : goal.returns
 returns c =

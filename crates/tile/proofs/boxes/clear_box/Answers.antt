@@ -1,17 +1,11 @@
 use mathlib.Core.Path.{◌≡◌, refl}
-use Prim.Native.Nat.{ℕ, ◌+◌, ◌*◌, ◌-◌}
+use Prim.Native.Nat.{◌+◌, ◌*◌, ◌-◌}
 use native.Mathlib.Omega.{arith}
 use borrow.Author.Rules.{rules}
 use lib.ListN.{length, get_or}
 use Rattle.reference.proofs.Rows.{colours_more, depths_more}
-use Rattle.tile.proofs.Frames.{row_room, colours_cut, depths_cut}
+use Rattle.tile.proofs.Frames.{row_room}
 use Rattle.tile.proofs.boxes.clear_box.Goals as goal
-
-pub slice_bounds-fill_colours-end : goal.slice_bounds-fill_colours-end
-slice_bounds-fill_colours-end c = let s = c.args.size in omega (arith, row_room s.width s.height c.loop-j.j _ c.from-width.ensures (omega arith))
-
-pub slice_bounds-fill-end : goal.slice_bounds-fill-end
-slice_bounds-fill-end c = let s = c.args.size in omega (arith, row_room s.width s.height c.loop-j.j _ c.from-width.ensures (omega arith))
 
 pub loop-j-preserved : goal.loop-j-preserved
 loop-j-preserved c =
@@ -28,18 +22,3 @@ loop-j-preserved c =
       depths_more w p.0 p.1 t j c.loop-j.depths c.fill.new.self a.depths.now (omega arith) (omega arith) (omega arith)
           (λ i j. a.dot.depth) (omega arith) ld (λ k kr. c.fill.ensures.clones k 0 (omega arith) refl) c.loop-j.invariant.1,
     )
-
-pub returns : goal.returns
-returns c =
-    let a = c.args in
-    let s = a.size in
-    let p = c.part-left.result in
-    let q = c.part-top.result in
-    let e : c.loop-j.j ≡ q.1 = omega arith in
-    let v = λ (i j k : ℕ). get_or a.dot.colour k 0 in
-    record {
-      colours = colours_cut s.width s.height a.frame p.0 q.0 p.1 q.1 c.part-left.ensures c.part-top.ensures v a.colours.now c.loop-j.colours c.requires.inside
-          (rw (← e, ← c.from-width.ensures) c.loop-j.invariant.0);
-      depths = depths_cut s.width s.height a.frame p.0 q.0 p.1 q.1 c.part-left.ensures c.part-top.ensures (λ i j. a.dot.depth) a.depths.now c.loop-j.depths c.requires.inside
-          (rw (← e, ← c.from-width.ensures) c.loop-j.invariant.1);
-    }

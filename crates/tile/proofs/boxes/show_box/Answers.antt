@@ -6,15 +6,6 @@ use Rattle.reference.proofs.Rows.{copied_more, copied_picture}
 use Rattle.tile.proofs.Frames.{row_room, picture_row, picture_cut}
 use Rattle.tile.proofs.boxes.show_box.Goals as goal
 
-pub slice_bounds-row-end : goal.slice_bounds-row-end
-slice_bounds-row-end c =
-    let s = c.args.size in
-    let n = c.args.number in
-    omega (arith, row_room s.width ((n + 1) * s.height) _ _ c.from-width.ensures (picture_row n s.height c.loop-j.j _ _ c.from.ensures c.from-2.ensures (omega arith)))
-
-pub slice_bounds-copy_from_slice-end : goal.slice_bounds-copy_from_slice-end
-slice_bounds-copy_from_slice-end c = let s = c.args.size in omega (arith, row_room s.width s.height c.loop-j.j _ c.from-width.ensures (omega arith))
-
 pub loop-j-preserved : goal.loop-j-preserved
 loop-j-preserved c =
     let a = c.args in

@@ -2,11 +2,8 @@ use Rattle.std.proofs.Common.{◌≡◌, ℕ, ◌+◌, subst, arith}
 use Rattle.reference.specs.Boxes.{in_box}
 use Rattle.reference.specs.Dots.{Drawn}
 use Rattle.reference.proofs.Regions.{down}
-use Rattle.reference.proofs.Canvases.{room_still, drawn_more}
+use Rattle.reference.proofs.Canvases.{drawn_more}
 use Rattle.reference.proofs.dots.DotByDotDraws.draw.Goals as goal
-
-pub mean_row-requires-clause-room : goal.mean_row-requires-clause-room
-mean_row-requires-clause-room c = room_still c.args.file c.args.canvas.now c.loop-j.canvas c.loop-j.invariant.same c.requires
 
 pub loop-j-preserved : goal.loop-j-preserved
 loop-j-preserved c =
