@@ -1,6 +1,9 @@
-// Memory as large as a file needs, all zero.
+// Memory as large as a file needs, all zero at first.
 ghost use Rattle.std.specs.Prelude.{◌≡◌, replicate, IfOk};
+ghost use Rattle.reference.specs.Made.{Made};
 
+use crate::painter::Painter;
+use codec::refusal::Refusal;
 use reference::job::Needs;
 use std::alloc::{AllocError, Global};
 
@@ -19,15 +22,24 @@ impl Memory {
         ensures work { IfOk result (λ m. m.work.items ≡ replicate needs.work 0) }
         ensures shown { IfOk result (λ m. m.shown.items ≡ replicate needs.shown 0) }
     {
-        let colours = vec![in heap; 0; needs.colours]?;
-        let depths = vec![in heap; 0; needs.depths]?;
-        let work = vec![in heap; 0; needs.work]?;
-        let shown = vec![in heap; 0; needs.shown]?;
         Ok(Memory {
-            colours,
-            depths,
-            work,
-            shown,
+            colours: vec![in heap; 0; needs.colours]?,
+            depths: vec![in heap; 0; needs.depths]?,
+            work: vec![in heap; 0; needs.work]?,
+            shown: vec![in heap; 0; needs.shown]?,
         })
+    }
+
+    // Lends all of it to have the pictures of a file made: how many are shown, or why there are none.
+    pub fn paint<P: Painter>(&mut self, painter: &P, file: &[u8]) -> Result<usize, Refusal>
+        ensures { Made file.now self.old.colours.items self.old.depths.items self.old.work.items self.old.shown.items result self.new.colours.items self.new.depths.items self.new.work.items self.new.shown.items }
+    {
+        painter.paint(
+            file,
+            &mut self.colours,
+            &mut self.depths,
+            &mut self.work,
+            &mut self.shown,
+        )
     }
 }

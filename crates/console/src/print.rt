@@ -6,7 +6,7 @@ ghost use Rattle.console.specs.Taken.{is_taken};
 
 use crate::memory::Memory;
 use crate::painter::Painter;
-use anyhow::anyhow;
+use anyhow::bail;
 use codec::refusal::Refusal;
 use meaning::state::Size;
 use output::push_rows;
@@ -23,12 +23,11 @@ fn print_refusal(rt: &HostRuntime, refusal: Refusal) -> anyhow::Result<()> {
 
 // One picture: its size, and its rows from the top.
 fn print_picture(rt: &HostRuntime, size: Size, dots: &[u8]) -> anyhow::Result<()> {
-    let width = size.width;
-    let height = size.height;
+    let Size { width, height } = size;
     println!(rt; "picture {width} {height}")?;
-    let mut text = Vec::new(rt.alloc());
+    let mut text = String::new(rt.alloc());
     push_rows(&mut text, size, dots)?;
-    rt.stdout().write_all(&text)?;
+    rt.stdout().write_all(text.as_bytes())?;
     Ok(())
 }
 
@@ -40,11 +39,9 @@ fn write_ppm(
     size: Size,
     dots: &[u8],
 ) -> anyhow::Result<()> {
-    let width = size.width;
-    let height = size.height;
+    let Size { width, height } = size;
     let path = format!(in rt.alloc(); "{name}-{number}.ppm")?;
-    let head = format!(in rt.alloc(); "P6\n{width} {height}\n255\n")?;
-    let mut bytes = head.as_bytes().to_vec(rt.alloc())?;
+    let mut bytes = format!(in rt.alloc(); "P6\n{width} {height}\n255\n")?.into_bytes();
     bytes.extend_from_slice(dots)?;
     fs::write(rt, path.as_str(), bytes.as_slice())?;
     Ok(())
@@ -68,17 +65,10 @@ pub fn print_pictures<P: Painter>(
         }
     };
     let Ok(mut memory) = Memory::new(rt.alloc(), needs) else {
-        return Err(anyhow!("there is not enough memory for the pictures"));
+        bail!("there is not enough memory for the pictures");
     };
-    match painter.paint(
-        file,
-        &mut memory.colours,
-        &mut memory.depths,
-        &mut memory.work,
-        &mut memory.shown,
-    ) {
-        Ok(_) => {}
-        Err(_) => return Err(anyhow!("the memory that was lent is too short")),
+    if memory.paint(painter, file).is_err() {
+        bail!("the memory that was lent is too short");
     }
     let size = needs.summary.size;
     for (k, dots) in memory.shown.chunks(needs.colours.max(1)).enumerate() {

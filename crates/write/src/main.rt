@@ -3,16 +3,18 @@
 
 use crate::parse::parse;
 use crate::problem::Problem;
-use anyhow::anyhow;
+use anyhow::bail;
 use codec::writer::{WriteError, write};
 use std::io::{Read, Write};
 use std::process::ExitCode;
 use std::{env, fs};
 
+mod command;
 mod draft;
 mod line;
 mod parse;
 mod problem;
+mod word;
 
 const HELP: &str = "write TEXT FILE: makes a file of drawing commands from a text.\n\
     TEXT may be - for standard input, FILE may be - for standard output.\n\
@@ -49,29 +51,25 @@ fn reason(error: WriteError) -> &'static str {
 }
 
 fn run(rt: &HostRuntime) -> anyhow::Result<()> {
-    let mut args = env::args(rt)?;
-    let _ = args.next();
+    let mut args = env::args(rt)?.skip(1);
     let Some(from) = args.next() else {
-        return Err(anyhow!("no text is named; write --help says how"));
+        bail!("no text is named; write --help says how");
     };
     if from.as_str() == "--help" {
         rt.println(HELP)?;
         return Ok(());
     }
     let Some(to) = args.next() else {
-        return Err(anyhow!("no file is named; write --help says how"));
+        bail!("no file is named; write --help says how");
     };
     let text = read_text(rt, from.as_str())?;
     let draft = match parse(rt.alloc(), text.as_str()) {
         Ok(draft) => draft,
         Err(Problem::Text(error)) => {
-            let line = error.line;
-            let column = error.column;
-            let expected = error.expected;
-            eprintln!(rt; "write: line {line}, column {column}: expected {expected}")?;
-            return Err(anyhow!("nothing was written"));
+            eprintln!(rt; "write: {error}")?;
+            bail!("nothing was written");
         }
-        Err(Problem::Memory) => return Err(anyhow!("there is not enough memory")),
+        Err(Problem::Memory) => bail!("there is not enough memory"),
     };
     match write(
         rt.alloc(),
@@ -81,7 +79,7 @@ fn run(rt: &HostRuntime) -> anyhow::Result<()> {
         &draft.commands,
     ) {
         Ok(bytes) => write_file(rt, to.as_str(), &bytes),
-        Err(error) => Err(anyhow!("{}", reason(error))),
+        Err(error) => bail!("{}", reason(error)),
     }
 }
 
