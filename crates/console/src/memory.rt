@@ -34,12 +34,12 @@ impl Memory {
     pub fn paint<P: Painter>(&mut self, painter: &P, file: &[u8]) -> Result<usize, Refusal>
         ensures { Made file.now self.old.colours.items self.old.depths.items self.old.work.items self.old.shown.items result self.new.colours.items self.new.depths.items self.new.work.items self.new.shown.items }
     {
-        painter.paint(
-            file,
-            &mut self.colours,
-            &mut self.depths,
-            &mut self.work,
-            &mut self.shown,
-        )
+        let Memory {
+            colours,
+            depths,
+            work,
+            shown,
+        } = self;
+        painter.paint(file, colours, depths, work, shown)
     }
 }

@@ -1,7 +1,6 @@
 // A program that prints the pictures of the file that it is given.
-ghost use Rattle.std.specs.Prelude.{◌≡◌, cond, None, IsErr};
+ghost use Rattle.std.specs.Prelude.{◌≡◌, cond, IsNone, IsErr, MatchResult};
 ghost use Rattle.std.specs.Process.{exit_status};
-ghost use Rattle.core.specs.Result.{MatchResult};
 
 use crate::painter::Painter;
 use crate::print::print_pictures;
@@ -35,7 +34,7 @@ impl<P: Painter> Program<P> {
         file: Option<&str>,
         ppm: Option<&str>,
     ) -> anyhow::Result<bool>
-        ensures { file ≡ None → IsErr result }
+        ensures { IsNone file.entry → IsErr result }
     {
         let Some(file) = file else {
             bail!("no file is named; {} --help says how", self.name);
