@@ -1,7 +1,9 @@
 -- A reader of the code that calls others by `?`, against one of the definition that is made of theirs.
 -- Assumes nothing.
 use Rattle.std.proofs.Common.{◌≡◌, ℕ, ◌≤◌, List, [], length, drop, Ok, Err, Result, sym, refl, ap, ◌∙◌, subst}
+use Rattle.std.specs.Result.{IsErrAnd}
 use Rattle.std.proofs.lemmas.List.{drop_all}
+use Rattle.std.proofs.lemmas.Result.{err_from_is_err_and}
 use Rattle.codec.specs.declared.refusal.Refusal.{Refusal}
 use Rattle.codec.specs.declared.reader.Reader.{Reader}
 use Rattle.codec.specs.Refusals.{refusal_number, refusal_place}
@@ -29,8 +31,8 @@ module _ {A B C D : Type 0} {f : B → A} {g : D → C} {read : judged.Reader A}
   go_on {z} {r} {b} {q} e h k =
       record { same = k.same ∙ h.same; is = rw (there h e) (subst (λ (n : ℕ). more (f b) n (left y) ≡ answer g q (left z)) (ap length h.same) k.is) }
 
-  pub go_out : {r : Result B Refusal} {b : Refusal} {q : Result D Refusal} → r ≡ Err b → (p : (e : Refusal) × (q ≡ Err e) × (e ≡ b)) → Reads f read x r y → Reads {B = D} g (◌>>=◌ read more) x q y
-  go_out e d h = record { same = h.same; is = rw (stopped h e, d.1, d.2) }
+  pub go_out : {r : Result B Refusal} {b : Refusal} {q : Result D Refusal} → r ≡ Err b → IsErrAnd q (λ e. e ≡ b) → Reads f read x r y → Reads {B = D} g (◌>>=◌ read more) x q y
+  go_out {q = q} e p h = let d = err_from_is_err_and q p in record { same = h.same; is = rw (stopped h e, d.1, d.2) }
 
 -- the same where the code says less in the end
 module _ {A B C D : Type 0} {f : B → A} {S : D → C → Type 0} {read : judged.Reader A} {x y : Reader} (more : A → judged.Reader C) where
@@ -40,8 +42,8 @@ module _ {A B C D : Type 0} {f : B → A} {S : D → C → Type 0} {read : judge
       ap (λ (w : List ℕ). more (f b) (length w) (left y)) h.same ∙ sym (ap (λ (m : judged.Got A). then m (λ a rest. more a (length x.bytes.now) rest)) (there h e)) in
       record { same = k.same ∙ h.same; is = subst (λ (m : judged.Got C). Answers S m q (left z)) j k.is }
 
-  pub some_out : {r : Result B Refusal} {b : Refusal} {q : Result D Refusal} → r ≡ Err b → (p : (e : Refusal) × (q ≡ Err e) × (e ≡ b)) → Reads f read x r y → ReadsSome S (◌>>=◌ read more) x q y
-  some_out e d h = record { same = h.same; is = rw (stopped h e, d.1, d.2) refl }
+  pub some_out : {r : Result B Refusal} {b : Refusal} {q : Result D Refusal} → r ≡ Err b → IsErrAnd q (λ e. e ≡ b) → Reads f read x r y → ReadsSome S (◌>>=◌ read more) x q y
+  some_out {q = q} e p h = let d = err_from_is_err_and q p in record { same = h.same; is = rw (stopped h e, d.1, d.2) refl }
 
 -- the same where the code says less on the way
 module _ {A B C D : Type 0} {R : B → A → Type 0} {S : D → C → Type 0} {read : judged.Reader A} {x y : Reader} (more : A → judged.Reader C) where
@@ -55,16 +57,19 @@ module _ {A B C D : Type 0} {R : B → A → Type 0} {S : D → C → Type 0} {r
       ap (λ (v : List ℕ). more a (length v) (left y)) h.same ∙ sym (ap (λ (m : judged.Got A). then m (λ c rest. more c (length x.bytes.now) rest)) w.2) in
       record { same = g.same ∙ h.same; is = subst (λ (m : judged.Got C). Answers S m q (left z)) j g.is }
 
-  pub then_out : {r : Result B Refusal} {b : Refusal} {q : Result D Refusal} → r ≡ Err b → (p : (e : Refusal) × (q ≡ Err e) × (e ≡ b)) → ReadsSome R read x r y → ReadsSome S (◌>>=◌ read more) x q y
-  then_out e d h = record { same = h.same; is = rw (some_stopped h e, d.1, d.2) refl }
+  pub then_out : {r : Result B Refusal} {b : Refusal} {q : Result D Refusal} → r ≡ Err b → IsErrAnd q (λ e. e ≡ b) → ReadsSome R read x r y → ReadsSome S (◌>>=◌ read more) x q y
+  then_out {q = q} e p h = let d = err_from_is_err_and q p in record { same = h.same; is = rw (some_stopped h e, d.1, d.2) refl }
 
 -- one reader's answer as another's
+pub given : {A B : Type 0} {S : B → A → Type 0} {x : Reader} {a : A} {d : B} → S d a → ReadsSome S (judged.give a) x (Ok d) x
+given {a = a} s = record { same = refl; is = (a, s, refl) }
+
 module _ {A B C : Type 0} {f : B → A} {S : C → A → Type 0} {read : judged.Reader A} {x y : Reader} {r : Result B Refusal} where
   pub renamed : {b : B} (d : C) → r ≡ Ok b → S d (f b) → Reads f read x r y → ReadsSome S read x (Ok d) y
   renamed {b} d e s h = record { same = h.same; is = (f b, s, there h e) }
 
-  pub refused_too : {b : Refusal} {q : Result C Refusal} → r ≡ Err b → (p : (e : Refusal) × (q ≡ Err e) × (e ≡ b)) → Reads f read x r y → ReadsSome S read x q y
-  refused_too e d h = record { same = h.same; is = rw (d.1, d.2) (stopped h e) }
+  pub refused_too : {b : Refusal} {q : Result C Refusal} → r ≡ Err b → IsErrAnd q (λ e. e ≡ b) → Reads f read x r y → ReadsSome S read x q y
+  refused_too {q = q} e p h = let d = err_from_is_err_and q p in record { same = h.same; is = rw (d.1, d.2) (stopped h e) }
 
 -- what was read at the end of a file, said of the file as it was
 pub found_there : {A : Type 0} (read : judged.Reader A) (x y : Reader) (file : List ℕ) (a : A) → x.bytes.now ≡ file → length y.bytes.now ≤ y.at →
@@ -74,3 +79,8 @@ found_there read x y file a p h q =
 
 pub within_too : (x : Reader) (file : List ℕ) → x.bytes.now ≡ file → x.at ≤ length file
 within_too x file p = subst (λ (b : List ℕ). x.at ≤ length b) p x.inside
+
+-- the steps of a reader that is made of others
+pub ruleset steps = (go_on, go_out)
+
+pub ruleset some_steps = (some_on, some_out, then_on, then_out, given, renamed, refused_too)

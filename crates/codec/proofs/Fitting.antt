@@ -23,9 +23,9 @@ use Rattle.codec.proofs.Passing.{none_if, all_pass}
 pub record Fine (s : Size) (ps : List TexturePart) (n : ℕ) (cs : List Command) : Type 0 where
   pub size : size_ok s ≡ true
   pub textures : length ps ≤ 64
-  pub each_texture : first_not (part_ok n) 0 ps ≡ None
+  pub each_texture : AllByRecursion (λ p. part_ok n p ≡ true) ps
   pub commands : length cs ≤ 65535
-  pub each_command : first_not (command_ok s (length ps)) 0 cs ≡ None
+  pub each_command : AllByRecursion (λ c. command_ok s (length ps) c ≡ true) cs
 
 none_at : (f : ℕ → WriteError) (o : Option ℕ) (x : Option WriteError) → refused_at f o x ≡ None → (o ≡ None) × (x ≡ None)
 none_at f None x h = (refl, h)
@@ -36,10 +36,10 @@ unfolding refusal
 fine s ps n cs h =
     let a = none_if (size_ok s) _ wrong.Size h in
     let b = none_if (leb (length ps) 64) _ wrong.Textures a.1 in
-    let d = none_at wrong.Texture (first_not (part_ok n) 0 ps) _ b.1 in
+    let d = none_at wrong.Texture (first_not (part_ok n) ps) _ b.1 in
     let e = none_if (leb (length cs) 65535) _ wrong.Commands d.1 in
-    let f = none_at wrong.Command (first_not (command_ok s (length ps)) 0 cs) None e.1 in
-    record { size = a.0; textures = leb-true _ _ b.0; each_texture = d.0; commands = leb-true _ _ e.0; each_command = f.0 }
+    let f = none_at wrong.Command (first_not (command_ok s (length ps)) cs) None e.1 in
+    record { size = a.0; textures = leb-true _ _ b.0; each_texture = all_pass (part_ok n) ps d.0; commands = leb-true _ _ e.0; each_command = all_pass (command_ok s (length ps)) cs f.0 }
 
 image_fits : (dots : List ℕ) → Bytes dots → (p : TexturePart) → part_ok (length dots) p ≡ true → ImageFits (part_image dots p)
 image_fits dots b p h =
@@ -91,9 +91,8 @@ list_fits s ps dots cs bytes typed h =
     let f = fine s ps (length dots) cs h in
     let size : size_ok s ≡ true = f.size in
     let same : length (part_images dots ps) ≡ length ps = length-map ps (part_image dots) in
-    let passed = all_pass (command_ok s (length ps)) 0 cs f.each_command in
     let few : length (part_images dots ps) ≤ 64 = omega (arith, f.textures) in
-    let fewer : length (instructions cs) ≤ 65535 = omega (arith, length_instructions s (length ps) cs passed, f.commands) in
+    let fewer : length (instructions cs) ≤ 65535 = omega (arith, length_instructions s (length ps) cs f.each_command, f.commands) in
     record {
       some_width = grind (arith, nat_tests);
       width = grind (arith, nat_tests);
@@ -101,9 +100,9 @@ list_fits s ps dots cs bytes typed h =
       height = grind (arith, nat_tests);
       textures = few;
       each_texture = All-map _ (part_image dots) ps
-          (All-weaker _ _ (image_fits dots (All-from_get_or (λ b. b < 256) dots 0 (λ i _. bytes i))) ps (all_pass (part_ok (length dots)) 0 ps f.each_texture));
+          (All-weaker _ _ (image_fits dots (All-from_get_or (λ b. b < 256) dots 0 (λ i _. bytes i))) ps f.each_texture);
       commands = fewer;
-      each_command = instructions_fit s (part_images dots ps) (length ps) same cs passed typed;
+      each_command = instructions_fit s (part_images dots ps) (length ps) same cs f.each_command typed;
     }
 
 -- the parts of the file, with the lengths of what is given
@@ -112,4 +111,4 @@ pub file_parts : (s : Size) (ps : List TexturePart) (dots : List ℕ) (cs : List
     68 ∷ 79 ∷ 84 ∷ 83 ∷ (le 2 s.width ++ (le 2 s.height ++ (length ps ∷ (all image_bytes (part_images dots ps) ++ (le 2 (length cs) ++ all command_bytes (instructions cs))))))
 unfolding file_of
 file_parts s ps dots cs h =
-    rw (length-map ps (part_image dots), length_instructions s (length ps) cs (all_pass (command_ok s (length ps)) 0 cs (fine s ps (length dots) cs h).each_command))
+    rw (length-map ps (part_image dots), length_instructions s (length ps) cs (fine s ps (length dots) cs h).each_command)

@@ -1,13 +1,16 @@
 -- A loop of the code over a reader, against `times` of the definition.
 -- Assumes nothing.
 use Rattle.std.proofs.Common.{◌≡◌, ℕ, suc, ◌+◌, ◌-◌, ◌<◌, ◌≤◌, List, [], ◌∷◌, ◌++◌, length, Ok, Err, Result, sym, refl, ap, ◌∙◌, subst, append_assoc, append-nil, arith}
+use Rattle.std.specs.Result.{IsErrAnd}
 use Rattle.std.proofs.lemmas.List.{length_push}
+use Rattle.std.proofs.lemmas.Result.{err_from_is_err_and}
 use Rattle.codec.specs.declared.refusal.Refusal.{Refusal}
 use Rattle.codec.specs.declared.reader.Reader.{Reader}
 use Rattle.codec.specs.Refusals.{refusal_number, refusal_place}
 use Rattle.codec.specs.Judged as judged
 use Rattle.codec.specs.Judged.{Got, stop, got, then, times, give}
-use Rattle.codec.specs.Reader.{Reads, ReadsSome, answer, Answers, left}
+use Rattle.codec.specs.Reader.{Reads, ReadsSome, SomeList, left}
+use Rattle.codec.proofs.Chains.{there, stopped, some_there, some_stopped}
 
 -- i of n were read on the way from x to y
 pub record Loop {A : Type 0} (read : judged.Reader A) (n i : ℕ) (x y : Reader) : Type 0 where
@@ -34,9 +37,8 @@ module _ {A : Type 0} where
     unfolding times
     loop_more {b} l e =
         let k : n - i ≡ suc (n - (i + 1)) = omega arith in
-        let g : read (length y.bytes.now) (left y) ≡ got (f b) (left z) = h.is ∙ ap (λ (o : Result B Refusal). answer f o (left z)) e in
-        let g' : read (length x.bytes.now) (left y) ≡ got (f b) (left z) = subst (λ (w : List ℕ). read (length w) (left y) ≡ got (f b) (left z)) o.same g in
-        let t : times (n - i) read (length x.bytes.now) (left y) ≡ then (times (n - (i + 1)) read (length x.bytes.now) (left z)) (λ more rest. got (f b ∷ more) rest) = rw (k, g') in
+        let g : read (length x.bytes.now) (left y) ≡ got (f b) (left z) = subst (λ (w : List ℕ). read (length w) (left y) ≡ got (f b) (left z)) o.same (there h e) in
+        let t : times (n - i) read (length x.bytes.now) (left y) ≡ then (times (n - (i + 1)) read (length x.bytes.now) (left z)) (λ more rest. got (f b ∷ more) rest) = rw (k, g) in
         record {
           same = h.same ∙ o.same;
           done = o.done ++ f b ∷ [];
@@ -44,31 +46,26 @@ module _ {A : Type 0} where
           is = o.is ∙ ap (λ (m : Got (List A)). then m (λ more rest. got (o.done ++ more) rest)) t ∙ then_more (times (n - (i + 1)) read (length x.bytes.now) (left z)) (f b) o.done;
         }
 
-    pub loop_stop : {b : Refusal} → i < n → r ≡ Err b → times n read (length x.bytes.now) (left x) ≡ stop (refusal_number b) (refusal_place b)
+    pub loop_stop : {b : Refusal} {q : Result (Unit {0}) Refusal} → i < n → r ≡ Err b → IsErrAnd q (λ e. e ≡ b) → ReadsSome (SomeList n) (times n read) x q z
     unfolding times
-    loop_stop {b} l e =
+    loop_stop {b} {q} l e d =
+        let p = err_from_is_err_and q d in
         let k : n - i ≡ suc (n - (i + 1)) = omega arith in
-        let g : read (length y.bytes.now) (left y) ≡ stop (refusal_number b) (refusal_place b) = h.is ∙ ap (λ (o : Result B Refusal). answer f o (left z)) e in
-        let g' : read (length x.bytes.now) (left y) ≡ stop (refusal_number b) (refusal_place b) = subst (λ (w : List ℕ). read (length w) (left y) ≡ stop (refusal_number b) (refusal_place b)) o.same g in
-        let t : times (n - i) read (length x.bytes.now) (left y) ≡ stop (refusal_number b) (refusal_place b) = rw (k, g') in
-        o.is ∙ rw t
+        let g : read (length x.bytes.now) (left y) ≡ stop (refusal_number b) (refusal_place b) =
+        subst (λ (w : List ℕ). read (length w) (left y) ≡ stop (refusal_number b) (refusal_place b)) o.same (stopped h e) in
+        let t : times (n - i) read (length x.bytes.now) (left y) ≡ stop (refusal_number b) (refusal_place b) = rw (k, g) in
+        record { same = h.same ∙ o.same; is = rw (p.1, p.2) (o.is ∙ rw t) }
 
-  pub loop_end : (read : judged.Reader A) (n i : ℕ) (x y : Reader) (o : Loop read n i x y) → n ≤ i → times n read (length x.bytes.now) (left x) ≡ got o.done (left y)
+  pub loop_end : {read : judged.Reader A} {n i : ℕ} {x y : Reader} (o : Loop read n i x y) → n ≤ i → i ≤ n → ReadsSome (SomeList n) (times n read) x (Ok tt) y
   unfolding times
-  loop_end read n i x y o l =
+  loop_end {n = n} {i = i} o l m =
       let k : n - i ≡ 0 = omega arith in
-      o.is ∙ rw (k, append-nil)
+      record { same = o.same; is = (o.done, omega (arith, o.long), o.is ∙ rw (k, append-nil)) }
 
   -- the same where the code says less
   module _ {B : Type 0} {R : B → A → Type 0} {read : judged.Reader A} {n i : ℕ} {x y z : Reader} {r : Result B Refusal} (o : Loop read n i x y) (h : ReadsSome R read y r z) where
     pub some_more : {b : B} → i < n → r ≡ Ok b → Loop read n (i + 1) x z
-    some_more {b} l e =
-        let w : Answers R (read (length y.bytes.now) (left y)) (Ok b) (left z) = subst (λ (o : Result B Refusal). Answers R (read (length y.bytes.now) (left y)) o (left z)) e h.is in
-        let g : Reads (λ (a : A). a) read y (Ok w.0) z = record { same = h.same; is = w.2 } in
-        loop_more o g l refl
+    some_more {b} l e = let w = some_there h e in let g : Reads (λ (a : A). a) read y (Ok w.0) z = record { same = h.same; is = w.2 } in loop_more o g l refl
 
-    pub some_stop : {b : Refusal} → i < n → r ≡ Err b → times n read (length x.bytes.now) (left x) ≡ stop (refusal_number b) (refusal_place b)
-    some_stop {b} l e =
-        let w : Answers R (read (length y.bytes.now) (left y)) (Err b) (left z) = subst (λ (o : Result B Refusal). Answers R (read (length y.bytes.now) (left y)) o (left z)) e h.is in
-        let g : Reads (λ (a : A). a) read y (Err b) z = record { same = h.same; is = w } in
-        loop_stop o g l refl
+    pub some_stop : {b : Refusal} {q : Result (Unit {0}) Refusal} → i < n → r ≡ Err b → IsErrAnd q (λ e. e ≡ b) → ReadsSome (SomeList n) (times n read) x q z
+    some_stop {b} l e d = let g : Reads (λ (a : A). a) read y (Err b) z = record { same = h.same; is = some_stopped h e } in loop_stop o g l refl d

@@ -1,6 +1,6 @@
 -- Numbers in a file: each is written in one way, and read back.
 -- Assumes nothing.
-use Rattle.std.proofs.Common.{◌≡◌, ℕ, zero, suc, ◌+◌, ◌-◌, ◌*◌, ◌/◌, ◌%◌, ◌^◌, ◌<◌, ◌≤◌, Bool, true, false, ◌&&◌, ltb, leb, List, [], ◌∷◌, length, ℤ, pos, negsuc, ◌-ℤ◌, Decides, refl, ap, pow-suc, arith}
+use Rattle.std.proofs.Common.{◌≡◌, ℕ, zero, suc, ◌+◌, ◌-◌, ◌*◌, ◌/◌, ◌%◌, ◌^◌, ◌<◌, ◌≤◌, Bool, true, false, ◌&&◌, ltb, leb, List, [], ◌∷◌, length, ℤ, pos, negsuc, ◌-ℤ◌, Decides, sym, refl, ap, ◌∙◌, pow-suc, arith}
 use borrow.Author.Differences.{ints}
 use Rattle.std.proofs.lemmas.Bool.{lt-ltb, le-ltb, cond_both}
 use Rattle.std.proofs.lemmas.Bool.Decides.{nat_tests}
@@ -41,6 +41,10 @@ le_value (x ∷ b) h =
     let p : (x + 256 * value b) % 256 ≡ x = omega arith in
     let q : (x + 256 * value b) / 256 ≡ value b = omega arith in
     rw (p, q, le_value b h.1)
+
+-- as many bytes of the same value are the same
+pub same_value : (a b : List ℕ) → length a ≡ length b → Bytes a → Bytes b → value a ≡ value b → a ≡ b
+same_value a b long h k e = sym (le_value a h) ∙ rw (long, e) (le_value b k)
 
 -- a number of n bytes that passes a test; `code a` is the number that stands for a
 module _ {A : Type 0} (bad n : ℕ) (as_read : ℕ → A) (code : A → ℕ) (ok : A → Bool) (code-back : (v : ℕ) → v < 256 ^ n → code (as_read v) ≡ v) where

@@ -7,3 +7,4 @@ pub mod Verdicts
 pub mod Shows
 pub mod Walk
 pub mod Writing
+pub mod Messages

@@ -4,7 +4,7 @@ use Rattle.std.specs.Prelude.{ℕ}
 use Rattle.codec.specs.declared.refusal.Lent.{Lent}
 use Rattle.codec.specs.declared.refusal.Lent.TheVariants.{Picture, Work, Shown}
 use Rattle.codec.specs.declared.owner.Owner.{Owner}
-use Rattle.codec.specs.declared.owner.Owner.TheVariants.{File, Command}
+use Rattle.codec.specs.declared.owner.Owner.TheVariants as owner
 use Rattle.codec.specs.declared.refusal.Refusal.{Refusal}
 use Rattle.codec.specs.declared.refusal.Refusal.TheVariants.{Length, Mark, Range, Kind, Number, Memory}
 
@@ -30,7 +30,8 @@ refusal_place (Kind p) = p
 refusal_place (Number p) = p
 refusal_place (Memory m) = lent_place m
 
--- the number of a refusal for a number out of range, of the file itself or of a command
+-- the number of a refusal for a number out of range: of the file itself, the kind of a command, of a command
 abbrev pub owner_number : Owner → ℕ
-owner_number File = 3
-owner_number Command = 5
+owner_number owner.File = 3
+owner_number owner.Kind = 4
+owner_number owner.Command = 5

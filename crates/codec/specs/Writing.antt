@@ -1,6 +1,6 @@
 -- What is written as a file: textures as parts of some bytes, commands as the code has them, and why a list is refused.
 -- Assumes nothing: these are definitions.
-use Rattle.std.specs.Prelude.{◌≡◌, ℕ, suc, ◌+◌, ◌-◌, ◌*◌, ◌^◌, ◌<◌, Bool, true, false, cond, ◌&&◌, List, [], ◌∷◌, ◌++◌, map, length, take, drop, Some, None, Ok, Err, vec_items, Option, Result, Vec, nat_le, slice_index}
+use Rattle.std.specs.Prelude.{◌≡◌, ℕ, ◌+◌, ◌-◌, ◌*◌, ◌^◌, ◌<◌, Bool, true, false, cond, ◌&&◌, List, [], ◌∷◌, ◌++◌, map, length, take, drop, Some, None, Ok, Err, vec_items, Option, Result, Vec, nat_le, not, position, slice_index}
 use Rattle.std.specs.declared.alloc.Global.{Global}
 use Rattle.std.specs.Option.{unwrap_or, option_to_list}
 use Rattle.meaning.specs.declared.command.Command.{Command}
@@ -72,10 +72,9 @@ Typed kind.Show = Unit {0}
 
 -- ---- why a list is refused
 
--- the place of the first that does not pass, counted from k
-unfoldable pub first_not : {A : Type 0} → (A → Bool) → ℕ → List A → Option ℕ
-first_not ok k [] = None
-first_not ok k (x ∷ rest) = cond (ok x) (first_not ok (suc k) rest) (Some k)
+-- the place of the first that does not pass
+abbrev pub first_not : {A : Type 0} → (A → Bool) → List A → Option ℕ
+first_not ok xs = position (λ x. not (ok x)) xs
 
 -- refused at the place that was found, or for what comes after
 abbrev pub refused_at : (ℕ → WriteError) → Option ℕ → Option WriteError → Option WriteError
@@ -87,9 +86,9 @@ unfoldable pub refusal : Size → List TexturePart → ℕ → List Command → 
 refusal s ps n cs =
     cond (size_ok s)
     (cond (nat_le (length ps) 64)
-    (refused_at wrong.Texture (first_not (part_ok n) 0 ps)
+    (refused_at wrong.Texture (first_not (part_ok n) ps)
     (cond (nat_le (length cs) 65535)
-    (refused_at wrong.Command (first_not (command_ok s (length ps)) 0 cs) None)
+    (refused_at wrong.Command (first_not (command_ok s (length ps)) cs) None)
     (Some wrong.Commands)))
     (Some wrong.Textures))
     (Some wrong.Size)

@@ -1,7 +1,7 @@
 // The bytes of a file, taken from the front.
 ghost use Rattle.std.specs.Prelude.{◌≡◌, length, IfOk};
 ghost use Rattle.codec.specs.Judged.{bytes};
-ghost use Rattle.codec.specs.Reader.{Reads, as_bytes};
+ghost use Rattle.codec.specs.Reader.{Reads, as_it_is, as_bytes};
 
 use crate::reader::Reader;
 use crate::refusal::Refusal;
@@ -20,5 +20,13 @@ impl<'a> Reader<'a> {
         let end = at + n;
         self.at = end;
         Ok(&bytes[at..end])
+    }
+
+    // The next N bytes as an array.
+    pub fn array<const N: usize>(&mut self) -> Result<[u8; N], Refusal>
+        ensures { Reads as_it_is (bytes N) self.old result self.new }
+    {
+        let bytes = self.take(N)?;
+        Ok(*bytes.first_chunk().unwrap())
     }
 }

@@ -1,49 +1,36 @@
 // The commands of a file, each its kind and what it has.
-ghost use Rattle.codec.specs.Judged.{judge, known, times, a_clear, a_command};
-ghost use Rattle.codec.specs.Kinds.{kind_code, built_yet};
-ghost use Rattle.codec.specs.Reader.{Reads, ReadsSome, as_it_is, Headed, SomeList};
+ghost use Rattle.codec.specs.Judged.{times, a_clear, a_command};
+ghost use Rattle.codec.specs.Kinds.{built_yet};
+ghost use Rattle.codec.specs.Reader.{ReadsSome, Headed, SomeList};
 
-use crate::kind::Kind;
 use crate::owner::Owner;
 use crate::reader::Reader;
 use crate::refusal::Refusal;
 use meaning::command::Command;
+use meaning::kind::Kind;
 use meaning::state::Size;
 
 impl Reader<'_> {
-    fn kind(&mut self) -> Result<Kind, Refusal>
-        ensures { Reads kind_code (judge 4 1 as_it_is (known built_yet)) self.old result self.new }
-    {
-        let at = self.at;
-        let bytes = self.take(1)?;
-        match Kind::from_number(bytes[0]) {
-            Some(kind) => Ok(kind),
-            None => Err(Refusal::Kind(at)),
-        }
-    }
-
+    #[tactic(auto, using(crate::proofs::Chains::some_steps), unfolding(crate::specs::Judged::a_clear))]
     fn clear(&mut self) -> Result<Command, Refusal>
         ensures { ReadsSome Headed a_clear self.old result self.new }
     {
-        let bytes = self.take(3)?;
-        let depth = self.word(Owner::Command, 0, 65535)?;
-        Ok(Command::Clear {
-            colour: [bytes[0], bytes[1], bytes[2]],
-            depth,
-        })
+        let colour = self.array()?;
+        let depth = self.number(Owner::Command, 0, 65535)?;
+        Ok(Command::Clear { colour, depth })
     }
 
     // One command, for a picture of this size and a file with so many textures.
     pub fn command(&mut self, size: Size, textures: u8) -> Result<Command, Refusal>
         ensures { ReadsSome Headed (a_command built_yet size textures) self.old result self.new }
     {
-        match self.kind()? {
-            Kind::Pen => {
-                let pen = self.pen(size, textures)?;
-                Ok(Command::Pen(pen))
-            }
+        let at = self.at;
+        match self.code(Owner::Kind)? {
+            Kind::Pen => Ok(Command::Pen(self.pen(size, textures)?)),
             Kind::Clear => self.clear(),
             Kind::Show => Ok(Command::Show),
+            // No file may have these yet.
+            Kind::Look | Kind::Triangles => Err(Refusal::Kind(at)),
         }
     }
 

@@ -8,6 +8,7 @@ use crate::reader::Reader;
 use crate::refusal::Refusal;
 use meaning::points::Corner;
 
+#[tactic(auto, using(crate::proofs::Chains::steps), unfolding(crate::specs::Judged::a_corner, crate::specs::Judged::a_triple))]
 impl Reader<'_> {
     fn corner(&mut self) -> Result<Corner, Refusal>
         ensures { Reads as_it_is a_corner self.old result self.new }
@@ -15,10 +16,9 @@ impl Reader<'_> {
         let x = self.whole(8_388_608)?;
         let y = self.whole(8_388_608)?;
         let z = self.whole(8_388_608)?;
-        let u = self.word(Owner::Command, 0, 65535)?;
-        let v = self.word(Owner::Command, 0, 65535)?;
-        let bytes = self.take(4)?;
-        let colour = [bytes[0], bytes[1], bytes[2], bytes[3]];
+        let u = self.number(Owner::Command, 0, 65535)?;
+        let v = self.number(Owner::Command, 0, 65535)?;
+        let colour = self.array()?;
         Ok(Corner {
             x,
             y,

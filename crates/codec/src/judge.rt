@@ -17,26 +17,26 @@ impl Reader<'_> {
         requires { self.old.at ≡ 0 }
         ensures { Reads as_mark (judge 2 4 as_it_is dots_letters) self.old result self.new }
     {
-        let bytes = self.take(4)?;
-        let mark = u32::from_le_bytes([bytes[0], bytes[1], bytes[2], bytes[3]]);
-        if mark != u32::from_le_bytes(*b"DOTS") {
+        let mark: [u8; 4] = self.array()?;
+        if mark != *b"DOTS" {
             return Err(Refusal::Mark);
         }
         Ok(())
     }
 
     // All that a file has, and nothing behind it.
+    #[tactic(auto, using(crate::proofs::Chains::some_steps), unfolding(crate::specs::Judged::a_file))]
     fn file(&mut self) -> Result<Summary, Refusal>
         requires { self.old.at ≡ 0 }
         ensures { ReadsSome (Summed self.old.bytes.now) (a_file built_yet) self.old result self.new }
     {
         self.mark()?;
-        let width = self.word(Owner::File, 1, 1024)?;
-        let height = self.word(Owner::File, 1, 1024)?;
+        let width = self.number(Owner::File, 1, 1024)?;
+        let height = self.number(Owner::File, 1, 1024)?;
         let size = Size { width, height };
-        let textures = self.byte(Owner::File, 0, 64)?;
+        let textures = self.number(Owner::File, 0, 64)?;
         self.textures(textures)?;
-        let commands = self.word(Owner::File, 0, 65535)?;
+        let commands = self.number(Owner::File, 0, 65535)?;
         let start = self.at;
         self.commands(commands, size, textures)?;
         if self.at < self.bytes.len() {

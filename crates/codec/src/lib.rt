@@ -5,10 +5,10 @@ ghost use Rattle.codec.specs.Judged.{ReadBack, WrittenSo, OneList};
 
 mod bounds;
 pub mod bytes;
+pub mod codes;
 pub mod commands;
 pub mod corners;
 pub mod judge;
-pub mod kind;
 pub mod numbers;
 pub mod owner;
 pub mod part;

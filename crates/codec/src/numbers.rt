@@ -1,6 +1,8 @@
 // Numbers from least to most, each judged when all its bytes are there.
-ghost use Rattle.std.specs.Prelude.{◌≤◌, IfOk};
-ghost use Rattle.codec.specs.Judged.{number, whole_number};
+ghost use Rattle.std.specs.Prelude.{◌≡◌, ℕ, ◌≤◌, ◌&&◌, nat_le, Some, IfOk};
+ghost use Rattle.std.specs.Ordering.{nat_cmp};
+ghost use Rattle.std.proofs.Common.{rules};
+ghost use Rattle.codec.specs.Judged.{value, number, whole_number};
 ghost use Rattle.codec.specs.Reader.{Reads, as_it_is};
 ghost use Rattle.codec.specs.Refusals.{owner_number};
 
@@ -9,44 +11,81 @@ use crate::owner::Owner;
 use crate::reader::Reader;
 use crate::refusal::Refusal;
 
+// A type of numbers without sign that take N bytes, the low one first.
+pub trait Number<const N: usize>: Copy + PartialOrd {
+    ghost worth: { Self → ℕ };
+
+    fn from_bytes(bytes: [u8; N]) -> Self
+        ensures { worth result ≡ value bytes.entry };
+
+    ghost narrow: { N ≤ 8 };
+
+    ghost ordered: { (a b : Self) → Self.partial_cmp a b ≡ Some (nat_cmp (worth a) (worth b)) };
+
+    final fn is_between(self, least: Self, most: Self) -> bool
+        ensures { result ≡ (nat_le (worth least) (worth self) && nat_le (worth self) (worth most)) }
+    {
+        least <= self && self <= most
+    }
+}
+
+impl Number<1> for u8 {
+    ghost worth = { λ v. v };
+
+    ghost narrow = { Prim.search rules };
+
+    ghost ordered = { Prim.search rules };
+
+    fn from_bytes(bytes: [u8; 1]) -> u8
+        ensures { result ≡ value bytes }
+    {
+        u8::from_le_bytes(bytes)
+    }
+}
+
+impl Number<2> for u16 {
+    ghost worth = { λ v. v };
+
+    ghost narrow = { Prim.search rules };
+
+    ghost ordered = { Prim.search rules };
+
+    fn from_bytes(bytes: [u8; 2]) -> u16
+        ensures { result ≡ value bytes }
+    {
+        u16::from_le_bytes(bytes)
+    }
+}
+
+impl Number<4> for u32 {
+    ghost worth = { λ v. v };
+
+    ghost narrow = { Prim.search rules };
+
+    ghost ordered = { Prim.search rules };
+
+    fn from_bytes(bytes: [u8; 4]) -> u32
+        ensures { result ≡ value bytes }
+    {
+        u32::from_le_bytes(bytes)
+    }
+}
+
 impl Reader<'_> {
-    // A number of one byte.
-    pub fn byte(&mut self, owner: Owner, least: u8, most: u8) -> Result<u8, Refusal>
-        ensures reads { Reads as_it_is (number (owner_number owner) 1 least most) self.old result self.new }
-        ensures within { IfOk result (λ v. (least ≤ v) × (v ≤ most)) }
+    // A number from least to most; one out of range is refused as its owner's numbers are.
+    pub fn number<T: Number<N>, const N: usize>(
+        &mut self,
+        owner: Owner,
+        least: T,
+        most: T,
+    ) -> Result<T, Refusal>
+        ensures reads { Reads T.worth (number (owner_number owner) N (T.worth least) (T.worth most)) self.old result self.new }
+        ensures within { IfOk result (λ v. (T.worth least ≤ T.worth v) × (T.worth v ≤ T.worth most)) }
     {
         let at = self.at;
-        let bytes = self.take(1)?;
-        let value = bytes[0];
-        if value < least || most < value {
+        let value = T::from_bytes(self.array()?);
+        if !value.is_between(least, most) {
             return Err(owner.refuse(at));
-        }
-        Ok(value)
-    }
-
-    // A number of two bytes, the low one first.
-    pub fn word(&mut self, owner: Owner, least: u16, most: u16) -> Result<u16, Refusal>
-        ensures reads { Reads as_it_is (number (owner_number owner) 2 least most) self.old result self.new }
-        ensures within { IfOk result (λ v. (least ≤ v) × (v ≤ most)) }
-    {
-        let at = self.at;
-        let bytes = self.take(2)?;
-        let value = u16::from_le_bytes([bytes[0], bytes[1]]);
-        if value < least || most < value {
-            return Err(owner.refuse(at));
-        }
-        Ok(value)
-    }
-
-    // A scale, a number of four bytes.
-    pub fn scale(&mut self) -> Result<u32, Refusal>
-        ensures { Reads as_it_is (number 5 4 0 1048575) self.old result self.new }
-    {
-        let at = self.at;
-        let bytes = self.take(4)?;
-        let value = u32::from_le_bytes([bytes[0], bytes[1], bytes[2], bytes[3]]);
-        if value > 1_048_575 {
-            return Err(Refusal::Number(at));
         }
         Ok(value)
     }
@@ -56,8 +95,7 @@ impl Reader<'_> {
         ensures { Reads as_it_is (whole_number bound) self.old result self.new }
     {
         let at = self.at;
-        let bytes = self.take(4)?;
-        let value = i32::from_le_bytes([bytes[0], bytes[1], bytes[2], bytes[3]]);
+        let value = i32::from_le_bytes(self.array()?);
         if !is_within(value, bound) {
             return Err(Refusal::Number(at));
         }

@@ -4,9 +4,10 @@ ghost use Rattle.codec.specs.Refusals.{owner_number, refusal_number, refusal_pla
 
 use crate::refusal::Refusal;
 
-#[derive(Clone, Copy)]
+#[derive(Clone, Copy, Debug, PartialEq, Eq)]
 pub enum Owner {
     File,
+    Kind,
     Command,
 }
 
@@ -18,6 +19,7 @@ impl Owner {
     {
         match self {
             Owner::File => Refusal::Range(at),
+            Owner::Kind => Refusal::Kind(at),
             Owner::Command => Refusal::Number(at),
         }
     }

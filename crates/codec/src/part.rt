@@ -3,7 +3,7 @@ ghost use Rattle.std.specs.Prelude.{◌≡◌, ◌≤◌};
 ghost use Rattle.codec.specs.Writing.{part_size, part_ok};
 
 // Where a texture's dots begin among the bytes, its width and height as powers of two beside it.
-#[derive(Clone, Copy)]
+#[derive(Clone, Copy, Debug, PartialEq, Eq)]
 pub struct TexturePart {
     pub across: u8,
     pub down: u8,

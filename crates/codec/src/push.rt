@@ -1,7 +1,7 @@
 // The parts of a file, pushed one behind another. What is pushed has been judged.
-ghost use Rattle.std.specs.Prelude.{◌≡◌, true, ◌∷◌, ◌++◌, length, None, OnOk};
+ghost use Rattle.std.specs.Prelude.{◌≡◌, true, ◌∷◌, ◌++◌, length, All, OnOk};
 ghost use Rattle.codec.specs.File.{le, all, frame_bytes, pen_bytes, image_bytes, command_bytes};
-ghost use Rattle.codec.specs.Writing.{part_image, part_images, part_ok, first_not, instructions, command_part};
+ghost use Rattle.codec.specs.Writing.{part_image, part_images, part_ok, instructions, command_part};
 
 use crate::part::TexturePart;
 use meaning::command::Command;
@@ -31,9 +31,9 @@ fn push_pen(out: &mut Vec<u8>, pen: Pen) -> Result<(), AllocError>
 {
     out.extend_from_slice(&[
         1,
-        pen.test.number(),
+        u8::from(pen.test),
         u8::from(pen.keeps),
-        pen.mix.number(),
+        u8::from(pen.mix),
         pen.texture,
     ])?;
     push_frame(out, pen.frame)?;
@@ -90,7 +90,7 @@ pub(crate) fn push_textures(
     parts: &[TexturePart],
     dots: &[u8],
 ) -> Result<(), AllocError>
-    requires { first_not (part_ok (length dots.now)) 0 parts.now ≡ None }
+    requires { All (λ p. part_ok (length dots.now) p ≡ true) parts.now }
     ensures { OnOk result (out.new.items ≡ out.old.items ++ all image_bytes (part_images dots.now parts.now)) }
 {
     for part in parts {

@@ -10,11 +10,12 @@ use meaning::texture::Texture;
 
 impl<'a> Reader<'a> {
     // A texture, whose dots stay in the file.
+    #[tactic(auto, using(crate::proofs::Chains::steps), unfolding(crate::specs::Judged::a_texture))]
     pub fn texture(&mut self) -> Result<Texture<'a>, Refusal>
         ensures { Reads image_of a_texture self.old result self.new }
     {
-        let across = self.byte(Owner::File, 0, 8)?;
-        let down = self.byte(Owner::File, 0, 8)?;
+        let across = self.number(Owner::File, 0, 8)?;
+        let down = self.number(Owner::File, 0, 8)?;
         let dots = self.take(4 * (1 << (across + down)))?;
         Ok(Texture { across, down, dots })
     }

@@ -3,11 +3,13 @@ ghost use Rattle.meaning.specs.Meaning.{look};
 ghost use Rattle.codec.specs.Judged.{a_row, a_place, a_look};
 ghost use Rattle.codec.specs.Reader.{Reads, as_it_is};
 
+use crate::owner::Owner;
 use crate::reader::Reader;
 use crate::refusal::Refusal;
 use meaning::geometry::Place;
 use meaning::projection::{Row, View};
 
+#[tactic(auto, using(crate::proofs::Chains::steps), unfolding(crate::specs::Judged::a_row, crate::specs::Judged::a_place, crate::specs::Judged::a_look))]
 impl Reader<'_> {
     fn row(&mut self) -> Result<Row, Refusal>
         ensures { Reads as_it_is a_row self.old result self.new }
@@ -33,7 +35,7 @@ impl Reader<'_> {
         let across = self.row()?;
         let down = self.row()?;
         let away = self.row()?;
-        let scale = self.scale()?;
+        let scale = self.number(Owner::Command, 0, 1_048_575)?;
         let middle = self.place()?;
         Ok(View {
             across,

@@ -1,6 +1,7 @@
 // Whether a list of commands is in bounds, so that it can be written as a file.
-ghost use Rattle.std.specs.Prelude.{◌≡◌, None};
+ghost use Rattle.std.specs.Prelude.{◌≡◌, IsOk, None};
 ghost use Rattle.std.specs.List.{AllByRecursion};
+ghost use Rattle.std.specs.Result.{result_err};
 ghost use Rattle.codec.specs.Writing.{size_ok, part_ok, frame_ok, command_ok, Typed, first_not, refusal};
 
 use crate::part::TexturePart;
@@ -38,53 +39,46 @@ fn is_command(command: Command, size: Size, textures: usize) -> bool
 
 // The first texture that is out of bounds.
 fn bad_texture(textures: &[TexturePart], bytes: usize) -> Option<usize>
-    ensures { result ≡ first_not (part_ok bytes) 0 textures.now }
+    ensures { result ≡ first_not (part_ok bytes) textures.now }
 {
-    for (k, part) in textures.iter().enumerate() {
-        if !part.is_within(bytes) {
-            return Some(k);
-        }
-    }
-    None
+    textures.iter().position(|part| !part.is_within(bytes))
 }
 
 // The first command that cannot be written.
 fn bad_command(commands: &[Command], size: Size, textures: usize) -> Option<usize>
-    ensures value { result ≡ first_not (command_ok size textures) 0 commands.now }
+    ensures value { result ≡ first_not (command_ok size textures) commands.now }
     ensures typed { result ≡ None → AllByRecursion Typed commands.now }
 {
-    for (k, command) in commands.iter().enumerate() {
-        if !is_command(*command, size, textures) {
-            return Some(k);
-        }
-    }
-    None
+    commands
+        .iter()
+        .position(|command| !is_command(*command, size, textures))
 }
 
-// Why there is no file, or nothing where all is in bounds. The dots of the textures lie in so many bytes.
+// Whether there is a file, or why there is none. The dots of the textures lie in so many bytes.
+#[tactic(auto, unfolding(crate::specs::Writing::refusal))]
 pub(crate) fn judge(
     size: Size,
     textures: &[TexturePart],
     bytes: usize,
     commands: &[Command],
-) -> Option<WriteError>
-    ensures value { result ≡ refusal size textures.now bytes commands.now }
-    ensures typed { result ≡ None → AllByRecursion Typed commands.now }
+) -> Result<(), WriteError>
+    ensures value { result_err result ≡ refusal size textures.now bytes commands.now }
+    ensures typed { IsOk result → AllByRecursion Typed commands.now }
 {
     if !is_size(size) {
-        return Some(WriteError::Size);
+        return Err(WriteError::Size);
     }
     if textures.len() > 64 {
-        return Some(WriteError::Textures);
+        return Err(WriteError::Textures);
     }
     if let Some(k) = bad_texture(textures, bytes) {
-        return Some(WriteError::Texture(k));
+        return Err(WriteError::Texture(k));
     }
     if commands.len() > 65_535 {
-        return Some(WriteError::Commands);
+        return Err(WriteError::Commands);
     }
-    match bad_command(commands, size, textures.len()) {
-        Some(k) => Some(WriteError::Command(k)),
-        None => None,
+    if let Some(k) = bad_command(commands, size, textures.len()) {
+        return Err(WriteError::Command(k));
     }
+    Ok(())
 }

@@ -9,9 +9,11 @@ use crate::writable::judge;
 use meaning::command::Command;
 use meaning::state::Size;
 use std::alloc::{AllocError, Global};
+use std::error::Error;
+use std::fmt;
 
 // What is out of bounds, or that memory is wanting. A texture and a command go by their place, from 0.
-#[derive(Clone, Copy)]
+#[derive(Clone, Copy, Debug, PartialEq, Eq)]
 pub enum WriteError {
     Size,
     Textures,
@@ -20,6 +22,37 @@ pub enum WriteError {
     Command(usize),
     Memory,
 }
+
+impl From<AllocError> for WriteError {
+    ghost use Rattle.std.specs.Prelude.{◌≡◌};
+    ghost use Rattle.codec.specs.declared.writer.WriteError.TheVariants.{Memory};
+
+    ghost from_gives = { λ _ e. e ≡ Memory };
+
+    fn from(_error: AllocError) -> WriteError {
+        WriteError::Memory
+    }
+}
+
+impl fmt::Display for WriteError {
+    ghost use Rattle.std.specs.Prelude.{Some};
+    ghost use Rattle.codec.specs.Messages.{write_error_text};
+
+    ghost output = { λ e. Some (write_error_text e) };
+
+    fn fmt<W: fmt::Write>(&self, f: &mut fmt::Formatter<W>) -> fmt::Result {
+        f.write_str(match self {
+            WriteError::Size => "a size is out of range",
+            WriteError::Textures => "there are more than 64 textures",
+            WriteError::Texture(_) => "a texture is out of range",
+            WriteError::Commands => "there are more than 65535 commands",
+            WriteError::Command(_) => "a command is out of range",
+            WriteError::Memory => "there is not enough memory",
+        })
+    }
+}
+
+impl Error for WriteError {}
 
 // The file behind what `out` has. All of it has been judged, so the casts lose nothing.
 fn push_file(
@@ -53,12 +86,8 @@ pub fn write(
     ensures { Written size textures.now dots.now commands.now result }
 {
     // All is judged before a byte is written.
-    if let Some(error) = judge(size, textures, dots.len(), commands) {
-        return Err(error);
-    }
+    judge(size, textures, dots.len(), commands)?;
     let mut out = Vec::new(heap);
-    match push_file(&mut out, size, textures, dots, commands) {
-        Ok(()) => Ok(out),
-        Err(_) => Err(WriteError::Memory),
-    }
+    push_file(&mut out, size, textures, dots, commands)?;
+    Ok(out)
 }

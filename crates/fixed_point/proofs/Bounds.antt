@@ -4,8 +4,8 @@ use Rattle.std.proofs.Common.{◌≡◌, ℕ, zero, suc, ◌+◌, ◌*◌, ◌/�
 use mir.Syntax.{Width}
 use Rattle.std.proofs.lemmas.Int.{ints, to_z-of_z}
 use lib.Signed.{mag}
-use Rattle.std.specs.Int.{int_div_euclid}
-use Rattle.fixed_point.specs.Whole.{down}
+use Rattle.std.proofs.Math.Nat.{div-mul-le_self, lt-div-mul-add}
+use Rattle.fixed_point.specs.Whole.{down, RoundsDown}
 
 mag_neg : (k : ℕ) → mag (neg_ℤ (pos k)) ≤ k
 mag_neg zero = zero-le
@@ -34,9 +34,16 @@ down_mag (negsuc a) n = refl
 pub down_less : (a : ℤ) (n : ℕ) → mag (down a n) ≤ mag a
 down_less a n = rw (down_mag a n) (div-le_self (mag a) n)
 
-pub div_is_down : (a : ℤ) (n : ℕ) → int_div_euclid a (pos n) ≡ down a n
-div_is_down (pos a) n = refl
-div_is_down (negsuc a) n = refl
+above : (a q n : ℕ) → suc q * n ≤ a → negsuc a <ℤ (negsuc q *ℤ pos n)
+above a q n h = omega (arith, ints)
+
+above_next : (a q n : ℕ) → q * n ≤ a → negsuc a <ℤ ((negsuc q +ℤ pos 1) *ℤ pos n)
+above_next a zero n h = omega (arith, ints)
+above_next a (suc q) n h = let e : negsuc (suc q) +ℤ pos 1 ≡ negsuc q = omega (arith, ints) in rw e (above a q n h)
+
+pub rounds_down : (a : ℤ) (n : ℕ) → 0 < n → RoundsDown a n (down a n)
+rounds_down (pos a) n h = record { low = omega (arith, ints, div-mul-le_self a n); high = omega (arith, ints, lt-div-mul-add {a = a} h) }
+rounds_down (negsuc a) n h = record { low = omega (arith, ints, lt-div-mul-add {a = a} h); high = above_next a (a / n) n (div-mul-le_self a n) }
 
 -- a product, computed at a width at which it fits
 pub product_is : (w : Width) (a b x y : ℤ) → SFits w x → SFits w y → x ≡ a → y ≡ b →

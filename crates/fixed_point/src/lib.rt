@@ -26,26 +26,46 @@ pub fn difference(a: i32, b: i32) -> i64
     i64::from(a) - i64::from(b)
 }
 
+// A number that can be divided by one of 32 bits.
+pub trait Dividend: Copy {
+    // The whole number that it is.
+    ghost whole: { Self → ℤ };
+
+    // Over `n`, rounded down.
+    fn over(self, n: u32) -> Self
+        requires { 0 < n }
+        ensures { whole result ≡ down (whole self) n };
+}
+
+impl Dividend for i64 {
+    ghost whole = { λ a. a };
+
+    fn over(self, n: u32) -> i64 {
+        self.div_euclid(i64::from(n))
+    }
+}
+
+// One that fits 64 bits, as nearly all do, is divided there, which is many times faster.
+impl Dividend for i128 {
+    ghost whole = { λ a. a };
+
+    fn over(self, n: u32) -> i128 {
+        match i64::try_from(self) {
+            Ok(narrow) => i128::from(narrow.over(n)),
+            Err(_) => self.div_euclid(i128::from(n)),
+        }
+    }
+}
+
 // `a` over `n`, rounded down; nothing where `n` is 0.
-pub fn quotient(a: i64, n: u32) -> Option<i64>
-    ensures value { MatchOption result (n ≡ 0) (λ q. (0 < n) × (q ≡ down a n)) }
-    ensures rounds { MatchOption result (n ≡ 0) (λ q. RoundsDown a n q) }
+pub fn quotient<T: Dividend>(a: T, n: u32) -> Option<T>
+    ensures value { MatchOption result (n ≡ 0) (λ q. (0 < n) × (T.whole q ≡ down (T.whole a) n)) }
+    ensures rounds { MatchOption result (n ≡ 0) (λ q. RoundsDown (T.whole a) n (T.whole q)) }
 {
     if n == 0 {
         return None;
     }
-    Some(a.div_euclid(i64::from(n)))
-}
-
-// The same of a wide number; one that fits 64 bits, as nearly all do, is divided there, which is many times faster.
-pub fn wide_quotient(a: i128, n: u32) -> Option<i128>
-    ensures { MatchOption result (n ≡ 0) (λ q. (0 < n) × (q ≡ down a n)) }
-{
-    match i64::try_from(a) {
-        Ok(narrow) => Some(i128::from(quotient(narrow, n)?)),
-        Err(_) if n == 0 => None,
-        Err(_) => Some(a.div_euclid(i128::from(n))),
-    }
+    Some(a.over(n))
 }
 
 // The whole part of a number with sixteen fraction bits, rounded down.

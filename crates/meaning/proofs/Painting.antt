@@ -1,16 +1,19 @@
 -- What is brought and painted at a place that a triangle covers, from the numbers that the code computes.
 -- Assumes nothing.
-use Rattle.std.proofs.Common.{◌≡◌, ℕ, ◌+◌, ◌*◌, ◌/◌, true, false, cond, not, ◌⊎◌, List, get_or, ℤ, pos, neg_ℤ, ◌<ℤ◌, Some, None, Option, sym, refl, ap, ◌∙◌, subst, inl, inr, arith}
+use Rattle.std.proofs.Common.{◌≡◌, ℕ, ◌+◌, ◌*◌, ◌/◌, true, false, cond, not, ◌⊎◌, List, get_or, ℤ, pos, neg_ℤ, ◌<ℤ◌, Some, None, Option, sym, refl, ap, ◌∙◌, inl, inr, arith}
 use lib.Signed.{lt_z}
 use Rattle.meaning.specs.declared.geometry.Place.{Place}
 use Rattle.meaning.specs.declared.points.Point.{Point}
+use Rattle.meaning.specs.declared.triangle.Triangle.{Triangle}
 use Rattle.meaning.specs.declared.pen.Pen.{Pen}
 use Rattle.meaning.specs.declared.state.Dot.{Dot}
 use borrow.Author.Differences.{ints}
+use Rattle.std.proofs.lemmas.Option.{none-some, same_Some}
 use Rattle.std.proofs.lemmas.Bool.{cond-true, cond-false, or_left, or_right, or_from, and_left, cases_Bool}
 use Rattle.fixed_point.specs.Whole.{sameZ}
 use Rattle.meaning.specs.Meaning.{Image, blended, depth_at, colour_at, texel, brings, turns, covers, middle, in_frame, passes, part_of, painted, if_covered, at_dot, seen_three}
 use Rattle.meaning.specs.Textures.{texels}
+use Rattle.meaning.specs.Triangles.{all_of}
 use Rattle.meaning.specs.Weights.{holds}
 use Rattle.meaning.specs.Fragments.{bringing, mixing}
 use Rattle.meaning.proofs.Sides.{is_above}
@@ -92,24 +95,18 @@ module _ (t : Option Image) (p : Pen) (a b c : Point) (i j : ℕ) (d : Dot) wher
           ∙ sym (cond-true _ _ _ (or_left (sameZ (turns a b c) (pos 0)) (not (in_frame p.frame i j)) e))
       go (inr e) = held b c (above (turns a b c) e g) ∙ sym (cond-false _ _ _ g) ∙ sym (cond-false _ _ _ (or_from _ _ e (ap not h)))
 
--- ---- a triangle in space, by which corners are hidden
+-- ---- a triangle in space
 module _ (t : Option Image) (p : Pen) (i j : ℕ) (d : Dot) where
-  pub hidden_first : (x y z : Option Point) → None ≡ x → d ≡ seen_three t p x y z i j d
+  pub hidden : (x y z : Option Point) → None ≡ all_of x y z → d ≡ seen_three t p x y z i j d
   unfolding seen_three
-  hidden_first x y z e = subst (λ (o : Option Point). d ≡ seen_three t p o y z i j d) e refl
+  hidden None y z e = refl
+  hidden (Some a) None z e = refl
+  hidden (Some a) (Some b) None e = refl
+  hidden (Some a) (Some b) (Some c) e = absurd (none-some _ e)
 
-  pub hidden_second : (a : Point) (x y z : Option Point) → Some a ≡ x → None ≡ y → d ≡ seen_three t p x y z i j d
+  pub shown : (n : Triangle) (x y z : Option Point) → Some n ≡ all_of x y z → at_dot t p n.a n.b n.c i j d ≡ seen_three t p x y z i j d
   unfolding seen_three
-  hidden_second a x y z e f = subst (λ (o : Option Point). d ≡ seen_three t p o y z i j d) e (subst (λ (o : Option Point). d ≡ seen_three t p (Some a) o z i j d) f refl)
-
-  -- the first two are seen, so that the third decides
-  pub third : (a b : Point) (x y z : Option Point) → Some a ≡ x → Some b ≡ y → seen_three t p (Some a) (Some b) z i j d ≡ seen_three t p x y z i j d
-  third a b x y z e f = ap (λ (o : Option Point). seen_three t p o (Some b) z i j d) e ∙ ap (λ (o : Option Point). seen_three t p x o z i j d) f
-
-  pub hidden_third : (a b : Point) (x y z : Option Point) → Some a ≡ x → Some b ≡ y → None ≡ z → d ≡ seen_three t p x y z i j d
-  unfolding seen_three
-  hidden_third a b x y z e f g = subst (λ (o : Option Point). d ≡ seen_three t p (Some a) (Some b) o i j d) g refl ∙ third a b x y z e f
-
-  pub all_seen : (a b c : Point) (x y z : Option Point) → Some a ≡ x → Some b ≡ y → Some c ≡ z → at_dot t p a b c i j d ≡ seen_three t p x y z i j d
-  unfolding seen_three
-  all_seen a b c x y z e f g = ap (λ (o : Option Point). seen_three t p (Some a) (Some b) o i j d) g ∙ third a b x y z e f
+  shown n None y z e = absurd (none-some n (sym e))
+  shown n (Some a) None z e = absurd (none-some n (sym e))
+  shown n (Some a) (Some b) None e = absurd (none-some n (sym e))
+  shown n (Some a) (Some b) (Some c) e = ap (λ (k : Triangle). at_dot t p k.a k.b k.c i j d) (same_Some n _ e)

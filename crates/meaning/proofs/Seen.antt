@@ -1,13 +1,15 @@
 -- When a corner is hidden, and its point when it is not.
 -- Assumes nothing.
-use Rattle.std.proofs.Common.{◌≡◌, ℕ, ◌-◌, ◌/◌, ◌≤◌, true, false, ℤ, pos, Some, None, sym, refl, ap, ◌∙◌, mul-le-mul_right, arith, w32, w64, SFits, to_z, of_z}
+use Rattle.std.proofs.Common.{◌≡◌, ℕ, ◌-◌, ◌/◌, ◌≤◌, true, false, ℤ, pos, Some, None, Option, sym, refl, ap, ◌∙◌, subst, mul-le-mul_right, arith, w32, w64, SFits, to_z, of_z}
 use native.Mathlib.Nat.{div-le_of_le-mul}
 use lib.Signed.{mag}
 use Rattle.std.proofs.lemmas.Int.{to_z-of_z}
 use Rattle.std.proofs.lemmas.Bool.{and_right}
 use Rattle.meaning.specs.declared.points.Corner.{Corner}
+use Rattle.meaning.specs.declared.points.Point.{Point}
 use Rattle.meaning.specs.declared.projection.View.{View}
 use Rattle.meaning.specs.Meaning.{along, is_in_sight, in_bounds, projected, depth_of, point_x, point_y, point_of}
+use Rattle.meaning.specs.Triangles.{all_of}
 use Rattle.meaning.specs.Parts.{Sighted, Bounded}
 
 module _ (w : View) (c : Corner) where
@@ -64,3 +66,21 @@ module _ (w : View) (c : Corner) where
 -- the depth of what is 256 away or more is not below 0
 pub depth_fits : (n : ℕ) → 256 ≤ n → 16776960 / n ≤ 65535
 depth_fits n h = div-le_of_le-mul n (omega (arith, mul-le-mul_right 65535 h))
+
+-- ---- three points
+module _ (x y z : Option Point) where
+  pub hidden_first : None ≡ x → None ≡ all_of x y z
+  hidden_first e = subst (λ (o : Option Point). None ≡ all_of o y z) e refl
+
+  pub hidden_second : (a : Point) → Some a ≡ x → None ≡ y → None ≡ all_of x y z
+  hidden_second a e f = subst (λ (o : Option Point). None ≡ all_of o y z) e (subst (λ (o : Option Point). None ≡ all_of (Some a) o z) f refl)
+
+  -- the first two are seen, so that the third decides
+  third : (a b : Point) → Some a ≡ x → Some b ≡ y → all_of (Some a) (Some b) z ≡ all_of x y z
+  third a b e f = ap (λ (o : Option Point). all_of o (Some b) z) e ∙ ap (λ (o : Option Point). all_of x o z) f
+
+  pub hidden_third : (a b : Point) → Some a ≡ x → Some b ≡ y → None ≡ z → None ≡ all_of x y z
+  hidden_third a b e f g = ap (λ (o : Option Point). all_of (Some a) (Some b) o) g ∙ third a b e f
+
+  pub all_seen : (a b c : Point) → Some a ≡ x → Some b ≡ y → Some c ≡ z → Some (record { a = a; b = b; c = c }) ≡ all_of x y z
+  all_seen a b c e f g = ap (λ (o : Option Point). all_of (Some a) (Some b) o) g ∙ third a b e f

@@ -4,6 +4,7 @@ use Rattle.meaning.specs.declared.geometry.Place.{Place}
 use Rattle.meaning.specs.declared.points.Corner.{Corner}
 use Rattle.meaning.specs.declared.points.Point.{Point}
 use Rattle.meaning.specs.declared.pen.Mix.{Mix}
+use Rattle.meaning.specs.declared.triangle.Triangle.{Triangle}
 use Rattle.meaning.specs.declared.fragment.Fragment.{Fragment}
 use Rattle.meaning.specs.Meaning.{Image, Triple, brings, mixed}
 use Rattle.meaning.specs.Weights.{holds}
@@ -24,10 +25,8 @@ no_corner = record { x = pos 0; y = pos 0; z = pos 0; u = 0; v = 0; colour = [] 
 abbrev pub triple : List Corner → Triple
 triple t = record { a = slice_index_or t 0 no_corner; b = slice_index_or t 1 no_corner; c = slice_index_or t 2 no_corner }
 
--- the fragment of a, b and c at m
-pub record Of (a b c : Point) (m : Place) (f : Fragment) : Type 0 where
-  pub held : holds a b c m ≡ true
-  pub a_is : f.a ≡ a
-  pub b_is : f.b ≡ b
-  pub c_is : f.c ≡ c
+-- the fragment of a triangle at m
+pub record Of (t : Triangle) (m : Place) (f : Fragment) : Type 0 where
+  pub held : holds t.a t.b t.c m ≡ true
+  pub triangle_is : f.triangle ≡ t
   pub place_is : f.place ≡ m

@@ -1,8 +1,10 @@
 pub mod Meaning
+pub mod Codes
 pub mod Numbers
 pub mod Laws
 pub mod Parts
 pub mod Textures
+pub mod Triangles
 pub mod Weights
 pub mod Fragments
 pub mod States

@@ -5,6 +5,8 @@ use Rattle.meaning.specs.declared.pen.Test.{Test}
 use Rattle.meaning.specs.declared.pen.Test.TheVariants.{Always, Less, LessOrEqual, Equal, Never}
 use Rattle.meaning.specs.declared.pen.Mix.{Mix}
 use Rattle.meaning.specs.declared.pen.Mix.TheVariants.{Replace, Blend, Add}
+use Rattle.meaning.specs.declared.kind.Kind.{Kind}
+use Rattle.meaning.specs.declared.kind.Kind.TheVariants as kinds
 use Rattle.meaning.specs.declared.command.Command as command
 use Rattle.meaning.specs.declared.command.Command.TheVariants as kind
 use Rattle.meaning.specs.Meaning.{Instruction, pen, look, clear, triangles, show}
@@ -35,6 +37,24 @@ kind_number (kind.Look w) = 2
 kind_number (kind.Clear c z) = 3
 kind_number (kind.Triangles n) = 4
 kind_number kind.Show = 5
+
+abbrev pub kind_code : Kind → ℕ
+kind_code kinds.Pen = 1
+kind_code kinds.Look = 2
+kind_code kinds.Clear = 3
+kind_code kinds.Triangles = 4
+kind_code kinds.Show = 5
+
+-- the kind of a number; there are five, from 1 on
+abbrev pub kind_of_code : ℕ → Kind
+kind_of_code n = cond (n == 1) kinds.Pen (cond (n == 2) kinds.Look (cond (n == 3) kinds.Clear (cond (n == 4) kinds.Triangles kinds.Show)))
+
+abbrev pub command_kind : command.Command → Kind
+command_kind (kind.Pen p) = kinds.Pen
+command_kind (kind.Look w) = kinds.Look
+command_kind (kind.Clear c z) = kinds.Clear
+command_kind (kind.Triangles n) = kinds.Triangles
+command_kind kind.Show = kinds.Show
 
 -- a command of a list as the code reads it: of triangles only how many
 abbrev pub header : Instruction → command.Command

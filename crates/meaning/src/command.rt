@@ -1,7 +1,8 @@
 // The commands of a list, as they are read: of triangles only how many, their corners come one triangle at a time.
 ghost use Rattle.std.specs.Prelude.{◌≡◌};
-ghost use Rattle.meaning.specs.Numbers.{kind_number};
+ghost use Rattle.meaning.specs.Numbers.{command_kind, kind_code, kind_number};
 
+use crate::kind::Kind;
 use crate::pen::Pen;
 use crate::projection::View;
 
@@ -15,16 +16,16 @@ pub enum Command {
 }
 
 impl Command {
-    // The number that stands for the kind of the command.
-    pub fn kind(self) -> u8
-        ensures { result ≡ kind_number self }
+    pub fn kind(self) -> Kind
+        ensures value { result ≡ command_kind self }
+        ensures number { kind_code result ≡ kind_number self }
     {
         match self {
-            Command::Pen(_) => 1,
-            Command::Look(_) => 2,
-            Command::Clear { .. } => 3,
-            Command::Triangles(_) => 4,
-            Command::Show => 5,
+            Command::Pen(_) => Kind::Pen,
+            Command::Look(_) => Kind::Look,
+            Command::Clear { .. } => Kind::Clear,
+            Command::Triangles(_) => Kind::Triangles,
+            Command::Show => Kind::Show,
         }
     }
 }

@@ -1,8 +1,11 @@
 // How dots are painted: which depths pass, how colours mix, and which dots may change.
-ghost use Rattle.std.specs.Prelude.{◌≡◌, ◌<◌, ◌≤◌, MatchOption};
+ghost use Rattle.std.specs.Prelude.{◌≡◌, ◌<◌, ◌≤◌};
 ghost use Rattle.meaning.specs.Meaning.{passes, mixed, in_frame};
+ghost use Rattle.meaning.specs.Codes.{Decodes, from_to};
 ghost use Rattle.meaning.specs.Numbers.{test_number, test_of, mix_number, mix_of};
 ghost use Rattle.meaning.specs.declared.pen.Mix.TheVariants.{Blend};
+
+use crate::code::{Coded, UnknownCode};
 
 // Which new depths pass, against the old one.
 #[derive(Clone, Copy)]
@@ -14,25 +17,11 @@ pub enum Test {
     Never,
 }
 
-impl Test {
-    // The test that a number stands for, or nothing where there is none.
-    pub fn from_number(n: u8) -> Option<Test>
-        ensures { MatchOption result (5 ≤ n) (λ t. (test_number t ≡ n) × (t ≡ test_of n)) }
-    {
-        match n {
-            0 => Some(Test::Always),
-            1 => Some(Test::Less),
-            2 => Some(Test::LessOrEqual),
-            3 => Some(Test::Equal),
-            4 => Some(Test::Never),
-            _ => None,
-        }
-    }
+impl From<Test> for u8 {
+    ghost from_gives = { λ test n. n ≡ test_number test };
 
-    pub fn number(self) -> u8
-        ensures { result ≡ test_number self }
-    {
-        match self {
+    fn from(test: Test) -> u8 {
+        match test {
             Test::Always => 0,
             Test::Less => 1,
             Test::LessOrEqual => 2,
@@ -40,7 +29,36 @@ impl Test {
             Test::Never => 4,
         }
     }
+}
 
+impl TryFrom<u8> for Test {
+    type Error = UnknownCode;
+
+    ghost try_from_gives = { Decodes test_number (from_to 0 4) test_of };
+
+    fn try_from(code: u8) -> Result<Test, UnknownCode> {
+        match code {
+            0 => Ok(Test::Always),
+            1 => Ok(Test::Less),
+            2 => Ok(Test::LessOrEqual),
+            3 => Ok(Test::Equal),
+            4 => Ok(Test::Never),
+            _ => Err(UnknownCode(code)),
+        }
+    }
+}
+
+impl Coded for Test {
+    ghost code = { test_number };
+
+    ghost is_code = { from_to 0 4 };
+
+    ghost coded = { test_of };
+
+    ghost decodes = { λ n r h. h };
+}
+
+impl Test {
     // Whether the new depth passes.
     pub fn is_passed(self, new: u16, old: u16) -> bool
         ensures { result ≡ passes self new old }
@@ -63,29 +81,44 @@ pub enum Mix {
     Add,
 }
 
-impl Mix {
-    // The mix that a number stands for, or nothing where there is none.
-    pub fn from_number(n: u8) -> Option<Mix>
-        ensures { MatchOption result (3 ≤ n) (λ m. (mix_number m ≡ n) × (m ≡ mix_of n)) }
-    {
-        match n {
-            0 => Some(Mix::Replace),
-            1 => Some(Mix::Blend),
-            2 => Some(Mix::Add),
-            _ => None,
-        }
-    }
+impl From<Mix> for u8 {
+    ghost from_gives = { λ mix n. n ≡ mix_number mix };
 
-    pub fn number(self) -> u8
-        ensures { result ≡ mix_number self }
-    {
-        match self {
+    fn from(mix: Mix) -> u8 {
+        match mix {
             Mix::Replace => 0,
             Mix::Blend => 1,
             Mix::Add => 2,
         }
     }
+}
 
+impl TryFrom<u8> for Mix {
+    type Error = UnknownCode;
+
+    ghost try_from_gives = { Decodes mix_number (from_to 0 2) mix_of };
+
+    fn try_from(code: u8) -> Result<Mix, UnknownCode> {
+        match code {
+            0 => Ok(Mix::Replace),
+            1 => Ok(Mix::Blend),
+            2 => Ok(Mix::Add),
+            _ => Err(UnknownCode(code)),
+        }
+    }
+}
+
+impl Coded for Mix {
+    ghost code = { mix_number };
+
+    ghost is_code = { from_to 0 2 };
+
+    ghost coded = { mix_of };
+
+    ghost decodes = { λ n r h. h };
+}
+
+impl Mix {
     // One part of the colour; `alpha` is the fourth part that is brought.
     pub fn mix(self, alpha: u8, new: u8, old: u8) -> u8
         ensures { result ≡ mixed self alpha new old }

@@ -2,11 +2,14 @@
 ghost use Rattle.std.specs.Prelude.{◌≡◌, ◌^◌, ◌<◌, ◌≤◌, false, pos, ◌*ℤ◌, MatchOption};
 ghost use Rattle.std.specs.Int.Signed.{mag};
 ghost use Rattle.meaning.specs.Meaning.{along, is_in_sight, in_bounds, projected, point_of};
+ghost use Rattle.meaning.specs.Fragments.{triple};
+ghost use Rattle.meaning.specs.Triangles.{triangle_seen};
 ghost use Rattle.meaning.specs.Parts.{Sighted, Bounded};
 
 use crate::geometry::Place;
 use crate::points::{Corner, Point};
-use fixed_point::{floor, product, wide_quotient};
+use crate::triangle::Triangle;
+use fixed_point::{floor, product, quotient};
 
 // One row of a view: three factors and an addend, in parts of 65,536.
 #[derive(Clone, Copy)]
@@ -59,7 +62,7 @@ fn in_sight(away: i64) -> Option<u32>
 }
 
 // A coordinate of a point, or nothing where it lies too far to the side.
-fn in_bounds(at: i128) -> Option<i32>
+fn bounded(at: i128) -> Option<i32>
     ensures { MatchOption result (in_bounds at ≡ false) (λ x. Bounded at x) }
 {
     if -524_288 <= at && at < 524_288 {
@@ -74,8 +77,8 @@ fn coordinate(middle: i32, z: i64, scale: u32, away: u32) -> Option<i32>
     requires { 0 < away }
     ensures { MatchOption result (in_bounds (projected middle z scale (pos away)) ≡ false) (λ x. Bounded (projected middle z scale (pos away)) x) }
 {
-    let moved = wide_quotient(product(z, i64::from(scale)), away)?;
-    in_bounds(i128::from(middle) + moved)
+    let moved = quotient(product(z, i64::from(scale)), away)?;
+    bounded(i128::from(middle) + moved)
 }
 
 impl View {
@@ -94,6 +97,17 @@ impl View {
             u: corner.u,
             v: corner.v,
             colour,
+        })
+    }
+    // A triangle on the picture, or nothing where a corner is hidden.
+    pub fn triangle(self, corners: [Corner; 3]) -> Option<Triangle>
+        ensures { result ≡ triangle_seen self (triple corners) }
+    {
+        let [a, b, c] = corners;
+        Some(Triangle {
+            a: self.point(a)?,
+            b: self.point(b)?,
+            c: self.point(c)?,
         })
     }
 }

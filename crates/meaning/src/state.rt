@@ -5,6 +5,7 @@ ghost use Rattle.meaning.specs.Fragments.{triple};
 ghost use Rattle.meaning.specs.States.{obeyed, painting};
 ghost use Rattle.meaning.specs.Textures.{image_if};
 
+use crate::brush::Brush;
 use crate::command::Command;
 use crate::geometry::Place;
 use crate::paint::paint_corners;
@@ -81,24 +82,12 @@ impl State {
         ensures { result ≡ obeyed i j self command }
     {
         match command {
-            Command::Pen(pen) => State {
-                pen,
-                view: self.view,
-                dot: self.dot,
+            Command::Pen(pen) => State { pen, ..self },
+            Command::Look(view) => State { view, ..self },
+            Command::Clear { colour, depth } if self.pen.frame.contains(i, j) => State {
+                dot: Dot { colour, depth },
+                ..self
             },
-            Command::Look(view) => State {
-                pen: self.pen,
-                view,
-                dot: self.dot,
-            },
-            Command::Clear { colour, depth } if self.pen.frame.contains(i, j) => {
-                let dot = Dot { colour, depth };
-                State {
-                    pen: self.pen,
-                    view: self.view,
-                    dot,
-                }
-            }
             Command::Clear { .. } | Command::Triangles(_) | Command::Show => self,
         }
     }
@@ -107,11 +96,13 @@ impl State {
     pub fn paint(self, texture: Option<Texture<'_>>, corners: [Corner; 3], i: u16, j: u16) -> State
         ensures { result ≡ painting (image_if texture.entry) (triple corners) i j self }
     {
-        let dot = paint_corners(texture, self.pen, self.view, corners, i, j, self.dot);
-        State {
+        let brush = Brush {
             pen: self.pen,
-            view: self.view,
-            dot,
+            texture,
+        };
+        State {
+            dot: paint_corners(brush, self.view, corners, i, j, self.dot),
+            ..self
         }
     }
 }

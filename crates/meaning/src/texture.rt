@@ -14,10 +14,7 @@ pub struct Texture<'a> {
 fn byte_at(dots: &[u8], at: usize) -> u8
     ensures { result ≡ slice_index dots.now at }
 {
-    match dots.get(at) {
-        Some(byte) => *byte,
-        None => 0,
-    }
+    dots.get(at).copied().unwrap_or(0)
 }
 
 impl Texture<'_> {

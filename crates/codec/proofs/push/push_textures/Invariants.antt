@@ -1,9 +1,7 @@
-use Rattle.std.proofs.Common.{◌≡◌, ◌++◌, length, drop, None, vec_items}
+use Rattle.std.proofs.Common.{◌≡◌, ◌++◌, drop, vec_items}
 use Rattle.codec.specs.File.{all, image_bytes}
-use Rattle.codec.specs.Writing.{part_images, part_ok, first_not}
+use Rattle.codec.specs.Writing.{part_images}
 use Rattle.codec.proofs.push.push_textures.Given as goal
 
 abbrev pub invariant-loop-part : goal.invariant-loop-part
-invariant-loop-part l =
-    (first_not (part_ok (length l.dots)) l.part-index (drop l.part-index l.parts) ≡ None) ×
-    (vec_items l.out ++ all image_bytes (part_images l.dots (drop l.part-index l.parts)) ≡ vec_items l.initial.out ++ all image_bytes (part_images l.dots l.parts))
+invariant-loop-part l = vec_items l.out ++ all image_bytes (part_images l.dots (drop l.part-index l.parts)) ≡ vec_items l.initial.out ++ all image_bytes (part_images l.dots l.parts)

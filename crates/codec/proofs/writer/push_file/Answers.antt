@@ -1,4 +1,5 @@
 use Rattle.std.proofs.Common.{ℕ, List, ◌++◌, length, vec_items, sym, ap, ◌∙◌, arith}
+use Rattle.std.proofs.lemmas.List.Elements.{All-from_recursion}
 use Rattle.codec.proofs.Appending.{behind}
 use Rattle.codec.proofs.Fitting.{fine, file_parts}
 use Rattle.codec.proofs.writer.push_file.Goals as goal
@@ -7,7 +8,7 @@ pub overflow_cast-textures : goal.overflow_cast-textures
 overflow_cast-textures c = omega (arith, (fine c.args.size c.args.textures.now (length c.args.dots.now) c.args.commands.now c.requires).textures)
 
 pub push_textures-requires : goal.push_textures-requires
-push_textures-requires c = (fine c.args.size c.args.textures.now (length c.args.dots.now) c.args.commands.now c.requires).each_texture
+push_textures-requires c = All-from_recursion _ c.args.textures.now (fine c.args.size c.args.textures.now (length c.args.dots.now) c.args.commands.now c.requires).each_texture
 
 pub overflow_cast-commands : goal.overflow_cast-commands
 overflow_cast-commands c = omega (arith, (fine c.args.size c.args.textures.now (length c.args.dots.now) c.args.commands.now c.requires).commands)
