@@ -1,6 +1,6 @@
 -- The commands of a file that is taken are of the kinds that there are yet.
 -- Assumes nothing.
-use Rattle.std.proofs.Common.{◌≡◌, ℕ, zero, suc, true, cond, List, length, refl, subst, arith}
+use Rattle.std.proofs.Common.{◌≡◌, ℕ, zero, suc, true, cond, List, length, Ok, refl, subst, arith}
 use borrow.Author.Tests.{clash}
 use Rattle.std.proofs.lemmas.Bool.{cond_both}
 use Rattle.std.proofs.lemmas.Bool.Decides.{nat_tests}
@@ -13,9 +13,8 @@ use Rattle.codec.specs.declared.summary.Summary.{Summary}
 use Rattle.codec.specs.Judged as judged
 use Rattle.codec.specs.Judged.{Got, stop, got, then, ◌>>=◌, give, place, value, bytes, judge, number, known, a_frame, a_pen, a_clear, of_kind, a_command, kind_of}
 use Rattle.codec.specs.Kinds.{built_yet}
-use Rattle.codec.specs.Reader.{left}
+use Rattle.codec.specs.Reader.{left, Headed, ReadsSome}
 use Rattle.codec.specs.Verdicts.{command}
-use Rattle.codec.specs.Walk.{Next}
 use Rattle.codec.proofs.Reading.{Holds, holds_then}
 
 -- what holds at the end, whatever was read before
@@ -61,6 +60,6 @@ command_built m = record {
 }
 
 -- the next command is of a kind that there is
-pub next_built : (m : Summary) (before : Reader) (c : Command) (after : Reader) → Next m before c after → built_yet (kind_number c) ≡ true
+pub next_built : (m : Summary) (before : Reader) (c : Command) (after : Reader) → ReadsSome Headed (command m) before (Ok c) after → built_yet (kind_number c) ≡ true
 next_built m before c after h =
-    subst (λ (d : Command). built_yet (kind_number d) ≡ true) h.head (subst (Holds (λ x _. Built x)) h.is ((command_built m).at (length before.bytes.now) (left before)))
+    subst (λ (d : Command). built_yet (kind_number d) ≡ true) h.is.1 (subst (Holds (λ x _. Built x)) h.is.2 ((command_built m).at (length before.bytes.now) (left before)))

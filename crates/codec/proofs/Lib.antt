@@ -3,6 +3,7 @@ pub mod Judging
 pub mod Chains
 pub mod Loops
 pub mod Walks
+pub mod Given
 pub mod Reading
 pub mod NumberCodecs
 pub mod PartCodecs

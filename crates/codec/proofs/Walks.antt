@@ -1,17 +1,18 @@
 -- Commands read again from a file that was judged: each of them is there.
 -- Assumes nothing.
-use Rattle.std.proofs.Common.{◌≡◌, ℕ, suc, ◌+◌, ◌-◌, ◌<◌, ◌≤◌, List, [], ◌∷◌, length, drop, sym, refl, ap, ◌∙◌, subst, arith}
+use Rattle.std.proofs.Common.{◌≡◌, ℕ, zero, suc, ◌+◌, List, [], ◌∷◌, length, Ok, Err, Result, IsOk, sym, refl, ap, ◌∙◌, subst, arith}
 use Rattle.meaning.specs.declared.command.Command.{Command}
 use Rattle.meaning.specs.Meaning.{Instruction}
 use Rattle.meaning.specs.Numbers.{header}
 use Rattle.codec.specs.declared.reader.Reader.{Reader}
+use Rattle.codec.specs.declared.refusal.Refusal.{Refusal}
 use Rattle.codec.specs.declared.summary.Summary.{Summary}
 use Rattle.codec.specs.Judged as judged
 use Rattle.codec.specs.Judged.{Got, got, stop, then, times, Verdict}
-use Rattle.codec.specs.Reader.{left}
+use Rattle.codec.specs.Reader.{left, Headed, ReadsSome}
 use Rattle.codec.specs.Verdicts.{command, Summed}
-use Rattle.codec.specs.Shows.{total}
-use Rattle.codec.specs.Walk.{There, Ahead, SomeNext, Next, listed, said}
+use Rattle.codec.specs.Walk as walk
+use Rattle.codec.specs.Walk.{There, Coming, coming, listed, said}
 
 -- a file that was taken has its commands where the summary says
 module _ (file : List ℕ) (m : Summary) (v : Verdict) (h : Summed file m v) where
@@ -46,52 +47,54 @@ times_first {A = A} r n whole l cs rest h = go (r whole l) refl h
     go (stop k p) e g = absurd (let z : ◌≡◌ {A = ℕ} 0 1 = cc in omega arith)
     go (got a l') e g = inner a l' e (times n r whole l') refl g
 
--- the next instruction, which is that of a command, and those behind it
-pub record More (file : List ℕ) (m : Summary) (k : ℕ) (cs : List Instruction) (c : Command) (s : Reader) : Type 0 where
-  pub next : Instruction
-  pub more : List Instruction
-  pub head : header next ≡ c
-  pub both : cs ≡ next ∷ more
-  pub ahead : Ahead file m (k + 1) s more
-
-module _ (file : List ℕ) (m : Summary) (k : ℕ) (r : Reader) (cs : List Instruction) (o : Ahead file m k r cs) (l : k < m.commands) where
-  one : First (command m) (m.commands - (k + 1)) (length file) (drop r.at file) cs []
-  one =
-      let e : m.commands - k ≡ suc (m.commands - (k + 1)) = omega arith in
-      times_first (command m) (m.commands - (k + 1)) (length file) (drop r.at file) cs [] (rw e at o.is)
-
-  pub ahead_next : SomeNext m r
-  ahead_next =
-      (one.first, one.behind, subst (λ (b : List ℕ). command m (length b) (drop r.at b) ≡ got one.first one.behind) (sym o.same) one.reads)
-
-  pub ahead_more : (c : Command) (s : Reader) → Next m r c s → More file m k cs c s
-  ahead_more c s h =
-      let e : command m (length file) (drop r.at file) ≡ got h.next (left s) = subst (λ (b : List ℕ). command m (length b) (drop r.at b) ≡ got h.next (left s)) o.same h.is in
-      let g : got one.first one.behind ≡ got h.next (left s) = sym one.reads ∙ e in
-      let p : one.first ≡ h.next = cc in
-      let q : one.behind ≡ left s = cc in
-      let t : s.bytes.now ≡ file = h.same ∙ o.same in
-      let u : one.behind ≡ drop s.at file = q ∙ ap (λ (b : List ℕ). drop s.at b) t in
-      record {
-        next = h.next;
-        more = one.others;
-        head = h.head;
-        both = one.both ∙ ap (λ (x : Instruction). x ∷ one.others) p;
-        ahead = record { same = t; is = ap (λ (b : List ℕ). times (m.commands - (k + 1)) (command m) (length file) b) (sym u) ∙ one.again };
-      }
-
-  pub total_more : (f : Command → ℕ) (c : Command) (s : Reader) (h : More file m k cs c s) → total f cs ≡ f c + total f h.more
-  unfolding total
-  total_more f c s h = ap (total f) h.both ∙ ap (λ (d : Command). f d + total f h.more) h.head
-
-pub ahead_none : (file : List ℕ) (m : Summary) (k : ℕ) (r : Reader) (cs : List Instruction) → Ahead file m k r cs → m.commands ≤ k → cs ≡ []
+-- as many as were to be read
+pub times_long : {A : Type 0} (r : judged.Reader A) (n whole : ℕ) (l : List ℕ) (cs : List A) (rest : List ℕ) → times n r whole l ≡ got cs rest → length cs ≡ n
 unfolding times
-ahead_none file m k r cs o h =
-    let z : m.commands - k ≡ 0 = omega arith in
-    let e : got [] (drop r.at file) ≡ got cs [] = rw z at o.is in
-    let p : [] ≡ cs = cc in
-    sym p
+times_long r zero whole l cs rest h = let p : [] ≡ cs = cc in ap length (sym p)
+times_long r (suc n) whole l cs rest h =
+    let f = times_first r n whole l cs rest h in ap length f.both ∙ ap suc (times_long r n whole f.behind f.others rest f.again)
 
-pub total_none : (f : Command → ℕ) → total f [] ≡ 0
-unfolding total
-total_none f = refl
+stopped : {A : Type 0} (a : A) (l : List ℕ) {n p : ℕ} → got a l ≡ stop n p → ⊥
+stopped a l e = cc
+
+-- the command that a reader gave is that of the first of some instructions, and k others come
+pub record Others (m : Summary) (k : ℕ) (cs : List Instruction) (c : Command) (s : Reader) : Type 0 where
+  pub next : Instruction
+  pub head : header next ≡ c
+  pub coming : Coming m k s
+  pub both : cs ≡ next ∷ walk.coming m k s
+
+-- n commands that come from where a reader is
+module _ (m : Summary) (n : ℕ) (r : Reader) (cs : List Instruction) (h : times n (command m) (length r.bytes.now) (left r) ≡ got cs []) where
+  pub none_comes : n ≡ 0 → cs ≡ []
+  unfolding times
+  none_comes z =
+      let e : got [] (left r) ≡ got cs [] = rw z at h in
+      let p : [] ≡ cs = cc in
+      sym p
+
+  module _ (k : ℕ) (z : n ≡ k + 1) where
+    one : First (command m) k (length r.bytes.now) (left r) cs []
+    one = let e : n ≡ suc k = omega arith in times_first (command m) k (length r.bytes.now) (left r) cs [] (rw e at h)
+
+    -- the reader does not refuse the first of them
+    pub one_comes : (a : Result Command Refusal) (s : Reader) → ReadsSome Headed (command m) r a s → IsOk a
+    one_comes (Ok c) s o = refl
+    one_comes (Err e) s o = absurd (stopped one.first one.behind (sym one.reads ∙ o.is))
+
+    -- what it is, and those behind it
+    pub others_come : (c : Command) (s : Reader) → ReadsSome Headed (command m) r (Ok c) s → Others m k cs c s
+    unfolding coming
+    others_come c s o =
+        let e : got one.first one.behind ≡ got o.is.0 (left s) = sym one.reads ∙ o.is.2 in
+        let p : one.first ≡ o.is.0 = cc in
+        let q : one.behind ≡ left s = cc in
+        let t : times k (command m) (length s.bytes.now) (left s) ≡ got one.others [] =
+        subst (λ (b : List ℕ). times k (command m) (length b) (left s) ≡ got one.others []) (sym o.same) (rw (← q) one.again) in
+        let u : one.others ≡ coming m k s = ap said (sym t) in
+        record {
+          next = o.is.0;
+          head = o.is.1;
+          coming = t ∙ ap (λ (l : List Instruction). got l []) u;
+          both = one.both ∙ ap (λ (x : Instruction). x ∷ one.others) p ∙ ap (λ (l : List Instruction). o.is.0 ∷ l) u;
+        }

@@ -6,5 +6,6 @@ pub mod Reader
 pub mod Verdicts
 pub mod Shows
 pub mod Walk
+pub mod Taken
 pub mod Writing
 pub mod Messages

@@ -4,11 +4,13 @@ ghost use Rattle.codec.specs.Judged.{judge, dots_letters, a_file};
 ghost use Rattle.codec.specs.Kinds.{built_yet};
 ghost use Rattle.codec.specs.Reader.{Reads, ReadsSome, as_it_is, as_mark};
 ghost use Rattle.codec.specs.Verdicts.{Summed, VerdictIs};
+ghost use Rattle.codec.specs.Taken.{TakenIs};
 
 use crate::owner::Owner;
 use crate::reader::Reader;
 use crate::refusal::Refusal;
 use crate::summary::Summary;
+use crate::taken::TakenFile;
 use meaning::state::Size;
 
 impl Reader<'_> {
@@ -57,4 +59,15 @@ pub fn judge(file: &[u8]) -> Result<Summary, Refusal>
 {
     let mut reader = Reader { bytes: file, at: 0 };
     reader.file()
+}
+
+// Judges a file, and gives it as one that is taken.
+pub fn take(file: &[u8]) -> Result<TakenFile<'_>, Refusal>
+    ensures { TakenIs file.now result }
+{
+    let summary = judge(file)?;
+    Ok(TakenFile {
+        bytes: file,
+        summary,
+    })
 }

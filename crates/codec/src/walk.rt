@@ -1,72 +1,57 @@
-// The commands of a file that was judged, read again one at a time. What each function requires holds after a judge that took the file.
-ghost use Rattle.std.specs.Prelude.{◌≡◌, ◌*◌, ◌≤◌};
-ghost use Rattle.codec.specs.Shows.{counts, triangles_in, shows, triangle_count};
-ghost use Rattle.codec.specs.Walk.{There, Ahead, SomeNext, Next, listed};
+// The commands of a file that was taken, read again one at a time.
+ghost use Rattle.codec.specs.Walk.{Coming};
 
 use crate::reader::Reader;
 use crate::summary::Summary;
+use crate::taken::TakenFile;
 use meaning::command::Command;
 
-// A reader before the first command.
-pub fn before_commands(file: &[u8], summary: Summary) -> Reader<'_>
-    requires { There file.now summary }
-    ensures { Ahead file.now summary 0 result (listed file.now summary) }
-{
-    Reader {
-        bytes: file,
-        at: summary.start,
+// Those that are left, and a reader before the first of them.
+#[derive(Drop)]
+pub struct Commands<'a> {
+    reader: Reader<'a>,
+    summary: Summary,
+    left: u16,
+    ghost coming: { Coming summary left reader },
+}
+
+impl Iterator for Commands<'_> {
+    ghost use Rattle.std.specs.Iterator.{item_count};
+    ghost use Rattle.codec.specs.Taken.{to_come, GivesNext};
+
+    type Item = Command;
+
+    ghost next_gives = { GivesNext };
+
+    ghost remaining = { item_count to_come };
+
+    fn next(&mut self) -> Option<Command> {
+        if self.left == 0 {
+            return None;
+        }
+        let summary = self.summary;
+        let command = self.reader.command(summary.size, summary.textures).unwrap();
+        self.left -= 1;
+        Some(command)
     }
 }
 
-// The next command: there is one while fewer were read than the file has.
-pub fn next(reader: &mut Reader<'_>, summary: Summary) -> Command
-    requires { SomeNext summary reader.old }
-    ensures { Next summary reader.old result reader.new }
-{
-    reader.command(summary.size, summary.textures).unwrap()
-}
+impl<'a> TakenFile<'a> {
+    ghost use Rattle.std.specs.Prelude.{◌≡◌, ◌≤◌, length};
+    ghost use Rattle.codec.specs.Taken.{commands_of, to_come};
 
-// What a list of commands asks of lent memory.
-#[derive(Clone, Copy)]
-pub struct Counts {
-    pub shows: usize,
-    pub triangles: usize,
-}
-
-fn shows_of(command: Command) -> usize
-    ensures value { result ≡ counts command }
-    ensures few { result ≤ 1 }
-{
-    match command {
-        Command::Show => 1,
-        Command::Pen(_) | Command::Look(_) | Command::Clear { .. } | Command::Triangles(_) => 0,
+    // Its commands from the first on.
+    pub fn commands(self) -> Commands<'a>
+        ensures all { to_come result ≡ commands_of self.entry }
+        ensures few { length (to_come result) ≤ 65535 }
+    {
+        Commands {
+            reader: Reader {
+                bytes: self.bytes,
+                at: self.summary.start,
+            },
+            summary: self.summary,
+            left: self.summary.commands,
+        }
     }
-}
-
-fn triangles_of(command: Command) -> usize
-    ensures value { result ≡ triangles_in command }
-    ensures few { result ≤ 65535 }
-{
-    match command {
-        Command::Triangles(many) => usize::from(many),
-        Command::Pen(_) | Command::Look(_) | Command::Clear { .. } | Command::Show => 0,
-    }
-}
-
-// How many pictures the commands of a file show, and how many triangles they have.
-pub fn count(file: &[u8], summary: Summary) -> Counts
-    requires { There file.now summary }
-    ensures shows { result.shows ≡ shows (listed file.now summary) }
-    ensures triangles { result.triangles ≡ triangle_count (listed file.now summary) }
-    ensures few { (result.shows ≤ 65535) × (result.triangles ≤ 65535 * 65535) }
-{
-    let mut reader = before_commands(file, summary);
-    let mut shows = 0;
-    let mut triangles = 0;
-    for _ in 0..summary.commands {
-        let command = next(&mut reader, summary);
-        shows += shows_of(command);
-        triangles += triangles_of(command);
-    }
-    Counts { shows, triangles }
 }

@@ -9,13 +9,14 @@ use Rattle.codec.specs.Judged.{Verdict, taken, judged}
 use Rattle.codec.specs.Kinds.{built_yet}
 use Rattle.codec.specs.Shows.{shows}
 use Rattle.codec.proofs.Files.{read_back}
-use Rattle.codec.specs.Walk.{listed}
+use Rattle.codec.specs.Taken.{commands_of}
 use Rattle.reference.specs.declared.job.Job.{Job}
 use Rattle.reference.specs.Boxes.{in_box}
-use Rattle.reference.specs.Shows.{Region}
+use Rattle.reference.specs.declared.lengths.Lengths.{Lengths}
+use Rattle.reference.specs.Dots.{RoomFor, Drawn}
 use Rattle.reference.specs.Whole.{pictures_in}
 use Rattle.reference.specs.Made.{dots, work_for, shown_for, lent, Leaves, Made, MadeIsMeant}
-use Rattle.reference.specs.Admitted.{Ready, Admitted}
+use Rattle.reference.specs.Admitted.{Ready, Admitted, verdict_over}
 use Rattle.reference.proofs.Wholes.{whole, pictures_cut, many_pictures}
 
 -- ---- where enough is lent the verdict stays
@@ -26,16 +27,21 @@ enough s ts cs c d w h hc hd hw hs =
     rw (picture, le-ltb w (work_for s cs) hw, le-ltb h (shown_for s cs) hs)
 
 -- ---- what a call leaves
-module _ (file C D W S : List ℕ) where
-  pub made_none : (e : Refusal) → Admitted file (length C) (length D) (length W) (length S) (Err e) → Made file C D W S (Err e) C D W S
-  made_none e h = subst (λ (v : Verdict). Leaves v C D W S (Err e) C D W S) (sym h) (refl, refl, refl, refl, refl, refl)
+module _ (file C D W S : List ℕ) (l : Lengths) (colours : l.colours ≡ length C) (depths : l.depths ≡ length D) (work : l.work ≡ length W) (shown : l.shown ≡ length S) where
+  lent_so : verdict_over l file ≡ lent (judged built_yet file) (length C) (length D) (length W) (length S)
+  lent_so = rw (colours, depths, work, shown)
 
-  pub made_all : (j : Job) (C' D' W' S' : List ℕ) (r : Ready file (length C) (length D) (length W) (length S) j) → length C' ≡ length C → length D' ≡ length D → length S' ≡ length S →
-      Region r.images j.summary.size (listed file j.summary) (in_box 0 0 j.summary.size.width j.summary.size.height) C D S C' D' S' →
-      Made file C D W S (Ok j.shows) C' D' W' S'
+  pub made_none : (e : Refusal) → Admitted file l (Err e) → Made file C D W S (Err e) C D W S
+  made_none e h = subst (λ (v : Verdict). Leaves v C D W S (Err e) C D W S) (sym h ∙ lent_so) (refl, refl, refl, refl, refl, refl)
+
+  pub room_lent : (j : Job) → Ready file l j → RoomFor j.file C D S
+  room_lent j r = record { colours = rw (← colours) r.colours; depths = rw (← depths) r.depths; shown = rw (← shown) r.room }
+
+  pub made_all : (j : Job) (C' D' W' S' : List ℕ) → Ready file l j → length C' ≡ length C → length D' ≡ length D → length S' ≡ length S →
+      Drawn j.file (in_box 0 0 j.file.summary.size.width j.file.summary.size.height) C D S C' D' S' → Made file C D W S (Ok j.shows) C' D' W' S'
   made_all j C' D' W' S' r lc ld ls o =
-      subst (λ (v : Verdict). Leaves v C D W S (Ok j.shows) C' D' W' S') (sym r.verdict)
-      (r.many, whole r.images j.summary.size (listed file j.summary) C D S C' D' S' r.fits (record { colours = r.colours; depths = r.depths; shown = r.room }) lc ld ls o)
+      subst (λ (v : Verdict). Leaves v C D W S (Ok j.shows) C' D' W' S') (sym r.verdict ∙ lent_so)
+      (r.known.many, whole r.known.images j.file.summary.size (commands_of j.file) C D S C' D' S' r.known.fits (room_lent j r) lc ld ls (o r.known.images))
 
 -- ---- the pictures that are made are those that the commands mean
 pub made_is_meant : MadeIsMeant

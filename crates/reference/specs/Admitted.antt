@@ -4,41 +4,47 @@ use Rattle.meaning.specs.Meaning.{Image}
 use Rattle.meaning.specs.Fits.{ListFits}
 use Rattle.codec.specs.declared.refusal.Refusal.{Refusal}
 use Rattle.codec.specs.Refusals.{refusal_number, refusal_place}
-use Rattle.codec.specs.Judged.{refused, taken, judged}
+use Rattle.codec.specs.Judged.{Verdict, refused, taken, judged}
 use Rattle.codec.specs.Kinds.{built_yet}
 use Rattle.codec.specs.Shows.{shows}
-use Rattle.codec.specs.Walk.{There, listed}
+use Rattle.codec.specs.Taken.{commands_of}
 use Rattle.reference.specs.declared.job.Job.{Job}
 use Rattle.reference.specs.declared.job.Needs.{Needs}
+use Rattle.reference.specs.declared.lengths.Lengths.{Lengths}
 use Rattle.reference.specs.Made.{dots, work_for, shown_for, lent}
 
--- the file is taken, its commands can be read again, they are in bounds, and these are the lengths that they need
-pub record Sized (file : List ℕ) (n : Needs) : Type 0 where
+-- the file is taken, and its commands are in bounds
+pub record Known (file : List ℕ) (j : Job) : Type 0 where
   pub images : List Image
-  pub verdict : judged built_yet file ≡ taken n.summary.size images (listed file n.summary)
-  pub there : There file n.summary
-  pub fits : ListFits n.summary.size images (listed file n.summary)
-  pub many : n.shows ≡ shows (listed file n.summary)
-  pub colours : n.colours ≡ dots n.summary.size * 3
-  pub depths : n.depths ≡ dots n.summary.size
-  pub work : n.work ≡ work_for n.summary.size (listed file n.summary)
-  pub shown : n.shown ≡ shown_for n.summary.size (listed file n.summary)
+  pub same : j.file.bytes.now ≡ file
+  pub verdict : judged built_yet file ≡ taken j.file.summary.size images (commands_of j.file)
+  pub fits : ListFits j.file.summary.size images (commands_of j.file)
+  pub many : j.shows ≡ shows (commands_of j.file)
+
+-- these are the lengths that its commands need
+pub record Sized (file : List ℕ) (n : Needs) : Type 0 where
+  pub known : Known file n.job
+  pub colours : n.lengths.colours ≡ dots n.job.file.summary.size * 3
+  pub depths : n.lengths.depths ≡ dots n.job.file.summary.size
+  pub work : n.lengths.work ≡ work_for n.job.file.summary.size (commands_of n.job.file)
+  pub shown : n.lengths.shown ≡ shown_for n.job.file.summary.size (commands_of n.job.file)
 
 abbrev pub Measured : List ℕ → Result Needs Refusal → Type 0
 Measured file (Ok n) = Sized file n
 Measured file (Err e) = judged built_yet file ≡ refused (refusal_number e) (refusal_place e)
 
--- the file is taken, its commands can be read again, they are in bounds, and there is room for the picture and for what is shown
-pub record Ready (file : List ℕ) (c d w h : ℕ) (j : Job) : Type 0 where
-  pub images : List Image
-  pub verdict : lent (judged built_yet file) c d w h ≡ taken j.summary.size images (listed file j.summary)
-  pub there : There file j.summary
-  pub fits : ListFits j.summary.size images (listed file j.summary)
-  pub many : j.shows ≡ shows (listed file j.summary)
-  pub colours : dots j.summary.size * 3 ≤ c
-  pub depths : dots j.summary.size ≤ d
-  pub room : shown_for j.summary.size (listed file j.summary) ≤ h
+-- a file's verdict, with memory of these lengths judged last
+abbrev pub verdict_over : Lengths → List ℕ → Verdict
+verdict_over l file = lent (judged built_yet file) l.colours l.depths l.work l.shown
 
-abbrev pub Admitted : List ℕ → ℕ → ℕ → ℕ → ℕ → Result Job Refusal → Type 0
-Admitted file c d w h (Ok j) = Ready file c d w h j
-Admitted file c d w h (Err e) = lent (judged built_yet file) c d w h ≡ refused (refusal_number e) (refusal_place e)
+-- the verdict stays, and there is room for the picture and for what is shown
+pub record Ready (file : List ℕ) (l : Lengths) (j : Job) : Type 0 where
+  pub known : Known file j
+  pub verdict : verdict_over l file ≡ taken j.file.summary.size known.images (commands_of j.file)
+  pub colours : dots j.file.summary.size * 3 ≤ l.colours
+  pub depths : dots j.file.summary.size ≤ l.depths
+  pub room : shown_for j.file.summary.size (commands_of j.file) ≤ l.shown
+
+abbrev pub Admitted : List ℕ → Lengths → Result Job Refusal → Type 0
+Admitted file l (Ok j) = Ready file l j
+Admitted file l (Err e) = verdict_over l file ≡ refused (refusal_number e) (refusal_place e)

@@ -1,68 +1,60 @@
 // What there is to do: a file that is taken, and enough memory lent for it.
 ghost use Rattle.reference.specs.Admitted.{Measured, Admitted};
 
-use codec::judge::judge;
+use crate::lengths::Lengths;
+use codec::judge::take;
 use codec::refusal::{Lent, Refusal};
-use codec::summary::Summary;
-use codec::walk::count;
+use codec::taken::TakenFile;
 
-// How much memory a file needs: bytes of colours, depths, words of work, and bytes for what is shown.
+// A file, and how many pictures it shows.
 #[derive(Clone, Copy)]
-pub struct Needs {
-    pub summary: Summary,
+pub struct Job<'a> {
+    pub file: TakenFile<'a>,
     pub shows: usize,
-    pub colours: usize,
-    pub depths: usize,
-    pub work: usize,
-    pub shown: usize,
 }
 
+// A job, and how much memory has to be lent for it.
 #[derive(Clone, Copy)]
-pub struct Job {
-    pub summary: Summary,
-    pub shows: usize,
+pub struct Needs<'a> {
+    pub job: Job<'a>,
+    pub lengths: Lengths,
 }
 
 // Judges a file and says what it needs.
-pub fn measure(file: &[u8]) -> Result<Needs, Refusal>
+pub fn measure(file: &[u8]) -> Result<Needs<'_>, Refusal>
     ensures { Measured file.now result }
 {
-    let summary = judge(file)?;
-    let width = usize::from(summary.size.width);
-    let height = usize::from(summary.size.height);
-    let counts = count(file, summary);
+    let file = take(file)?;
+    let width = usize::from(file.summary.size.width);
+    let height = usize::from(file.summary.size.height);
+    let counts = file.counts();
     Ok(Needs {
-        summary,
-        shows: counts.shows,
-        colours: height * width * 3,
-        depths: height * width,
-        work: height * width * 4 + counts.triangles * 16,
-        shown: counts.shows * height * width * 3,
+        job: Job {
+            file,
+            shows: counts.shows,
+        },
+        lengths: Lengths {
+            colours: height * width * 3,
+            depths: height * width,
+            work: height * width * 4 + counts.triangles * 16,
+            shown: counts.shows * height * width * 3,
+        },
     })
 }
 
 // Judges the file and then the lengths of the lent memory, in the order picture, work, shown.
-pub fn admit(
-    file: &[u8],
-    colours: usize,
-    depths: usize,
-    work: usize,
-    shown: usize,
-) -> Result<Job, Refusal>
-    ensures { Admitted file.now colours depths work shown result }
+pub fn admit(file: &[u8], lent: Lengths) -> Result<Job<'_>, Refusal>
+    ensures { Admitted file.now lent result }
 {
     let needs = measure(file)?;
-    if colours < needs.colours || depths < needs.depths {
+    if lent.colours < needs.lengths.colours || lent.depths < needs.lengths.depths {
         return Err(Refusal::Memory(Lent::Picture));
     }
-    if work < needs.work {
+    if lent.work < needs.lengths.work {
         return Err(Refusal::Memory(Lent::Work));
     }
-    if shown < needs.shown {
+    if lent.shown < needs.lengths.shown {
         return Err(Refusal::Memory(Lent::Shown));
     }
-    Ok(Job {
-        summary: needs.summary,
-        shows: needs.shows,
-    })
+    Ok(needs.job)
 }

@@ -1,7 +1,7 @@
 use Rattle.std.proofs.Common.{◌≡◌, ℕ, ◌+◌, subst, arith}
-use Rattle.codec.specs.Walk.{listed}
+use Rattle.codec.specs.Taken.{commands_of}
 use Rattle.reference.specs.Boxes.{in_box}
-use Rattle.reference.specs.Shows.{Region}
+use Rattle.reference.specs.Dots.{Drawn}
 use Rattle.reference.proofs.Regions.{region_more, down}
 use Rattle.reference.proofs.dots.mean_rows.Goals as goal
 
@@ -9,8 +9,8 @@ pub loop-j-preserved : goal.loop-j-preserved
 loop-j-preserved c =
     let a = c.args in
     let o = c.loop-j in
-    let w = a.summary.size.width in
-    λ ts. region_more ts a.summary.size (listed a.file.now a.summary) a.colours.now a.depths.now a.shown.now
+    let w = a.file.summary.size.width in
+    λ ts. region_more ts a.file.summary.size (commands_of a.file) a.colours.now a.depths.now a.shown.now
     (in_box 0 0 w o.j) (in_box 0 o.j w (o.j + 1)) (in_box 0 0 w (o.j + 1))
     o.colours o.depths o.shown c.mean_row.new.colours c.mean_row.new.depths c.mean_row.new.shown
     (down 0 w 0 o.j (o.j + 1) (omega arith) (omega arith)) (o.invariant ts) (c.mean_row.ensures ts)
@@ -19,5 +19,5 @@ pub returns : goal.returns
 returns c =
     let a = c.args in
     let o = c.loop-j in
-    let e : o.j ≡ a.summary.size.height = omega arith in
-    λ ts. subst (λ (m : ℕ). Region ts a.summary.size (listed a.file.now a.summary) (in_box 0 0 a.summary.size.width m) a.colours.now a.depths.now a.shown.now o.colours o.depths o.shown) e (o.invariant ts)
+    let e : o.j ≡ a.file.summary.size.height = omega arith in
+    subst (λ (m : ℕ). Drawn a.file (in_box 0 0 a.file.summary.size.width m) a.colours.now a.depths.now a.shown.now o.colours o.depths o.shown) e o.invariant

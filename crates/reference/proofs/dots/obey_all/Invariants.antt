@@ -1,11 +1,12 @@
-use Rattle.std.proofs.Common.{◌≤◌, List}
-use Rattle.meaning.specs.Meaning.{Image, Instruction}
-use Rattle.codec.specs.Walk.{Ahead, listed}
+use Rattle.std.proofs.Common.{◌+◌, ◌≤◌, List, length}
+use Rattle.meaning.specs.Meaning.{Image}
+use Rattle.codec.specs.Taken.{commands_of, to_come}
 use Rattle.reference.proofs.EachDot.{SoFar}
 use Rattle.reference.proofs.dots.obey_all.Given as goal
 
-abbrev pub invariant-loop : goal.invariant-loop
-invariant-loop l =
-    (l.number ≤ l.counter)
-    × ((left : List Instruction) × Ahead l.file l.summary l.counter l.reader left
-    × ((ts : List Image) → SoFar ts l.summary.size (listed l.file l.summary) l.i l.j l.initial.shown left l.state l.number l.shown))
+abbrev pub invariant-loop-command : goal.invariant-loop-command
+invariant-loop-command l =
+    (goal.iterator-loop-command).can_next l.command-iterator
+    × (goal.iterator-loop-command).is_finite l.command-iterator
+    × (l.number + length (to_come l.command-iterator) ≤ 65535)
+    × ((ts : List Image) → SoFar ts l.file.summary.size (commands_of l.file) l.i l.j l.initial.shown (to_come l.command-iterator) l.state l.number l.shown)

@@ -1,23 +1,20 @@
 use Rattle.std.proofs.Common.{ap, ◌∙◌, arith}
 use Rattle.codec.specs.Judged.{Verdict}
-use Rattle.codec.specs.Walk.{listed}
+use Rattle.codec.specs.Taken.{commands_of}
 use Rattle.reference.specs.Made.{lent}
 use Rattle.reference.proofs.Entering.{enough}
 use Rattle.reference.proofs.job.admit.Goals as goal
 
 pub returns : goal.returns
 returns c =
-    let n = c.in_ok-needs.needs in
     let h = c.in_ok-needs.ensures in
+    let l = c.args.lent in
+    let f = c.in_ok-needs.needs.job.file in
     record {
-      images = h.images;
+      known = h.known;
       verdict =
-          ap (λ (v : Verdict). lent v c.args.colours c.args.depths c.args.work c.args.shown) h.verdict
-          ∙ enough n.summary.size h.images (listed c.args.file.now n.summary) c.args.colours c.args.depths c.args.work c.args.shown
-          (omega arith) (omega arith) (omega arith) (omega arith);
-      there = h.there;
-      fits = h.fits;
-      many = h.many;
+          ap (λ (v : Verdict). lent v l.colours l.depths l.work l.shown) h.known.verdict
+          ∙ enough f.summary.size h.known.images (commands_of f) l.colours l.depths l.work l.shown (omega arith) (omega arith) (omega arith) (omega arith);
       colours = omega arith;
       depths = omega arith;
       room = omega arith;

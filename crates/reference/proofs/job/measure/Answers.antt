@@ -1,48 +1,50 @@
-use Rattle.std.proofs.Common.{◌≡◌, ℕ, ◌*◌, ◌<◌, ◌≤◌, List, get_or, sym, ap, ◌∙◌, mul-le-mul, arith}
+use Rattle.std.proofs.Common.{◌≡◌, ℕ, ◌*◌, ◌<◌, ◌≤◌, List, Ok, get_or, sym, ap, ◌∙◌, mul-le-mul, arith}
 use Rattle.meaning.specs.Fits.{ListFits}
-use Rattle.codec.specs.declared.summary.Summary.{Summary}
+use Rattle.codec.specs.declared.taken.TakenFile.{TakenFile}
 use Rattle.codec.specs.Judged.{judged, taken}
 use Rattle.codec.specs.Kinds.{built_yet}
-use Rattle.codec.specs.Verdicts.{Summed}
 use Rattle.codec.specs.Walk.{listed}
+use Rattle.codec.specs.Taken.{commands_of, TakenIs}
 use Rattle.codec.proofs.Files.{written_so}
-use Rattle.codec.proofs.Walks.{there, same_list}
+use Rattle.codec.proofs.Walks.{same_list}
 use Rattle.reference.proofs.job.measure.Goals as goal
 
--- the file's verdict, by the list that is read again
-verdict : (file : List ℕ) (m : Summary) (h : Summed file m (judged built_yet file)) → judged built_yet file ≡ taken m.size h.0 (listed file m)
-verdict file m h = h.2 ∙ ap (taken m.size h.0) (sym (same_list file m (judged built_yet file) h))
+module _ (file : List ℕ) (t : TakenFile) (h : TakenIs file (Ok t)) where
+  -- the file's verdict, by the list that is read again
+  verdict : judged built_yet file ≡ taken t.summary.size h.1.0 (commands_of t)
+  verdict =
+      let e : commands_of t ≡ listed file t.summary = ap (λ (b : List ℕ). listed b t.summary) h.0 in
+      h.1.2 ∙ ap (taken t.summary.size h.1.0) (sym (e ∙ same_list file t.summary (judged built_yet file) h.1))
 
--- a file that is taken is in bounds
-bounds : (file : List ℕ) (m : Summary) → ((k : ℕ) → get_or file k 0 < 256) → (h : Summed file m (judged built_yet file)) → ListFits m.size h.0 (listed file m)
-bounds file m below h = (written_so built_yet file m.size h.0 (listed file m) below (verdict file m h)).0
-
-pub count-counts-requires : goal.count-counts-requires
-count-counts-requires c = there c.args.file.now c.in_ok-summary.summary _ c.in_ok-summary.ensures
+  -- a file that is taken is in bounds
+  bounds : ((k : ℕ) → get_or file k 0 < 256) → ListFits t.summary.size h.1.0 (commands_of t)
+  bounds below = (written_so built_yet file t.summary.size h.1.0 (commands_of t) below verdict).0
 
 pub overflow_mul-result-9 : goal.overflow_mul-result-9
 overflow_mul-result-9 c =
-    let f = bounds c.args.file.now c.in_ok-summary.summary (λ k. (c.type_inv.file k).fits) c.in_ok-summary.ensures in
+    let f = bounds c.args.file.now c.in_ok-file.file c.in_ok-file.ensures (λ k. (c.type_inv.file k).fits) in
     let low : c.from-height.result ≤ 1024 = omega (arith, f.height, c.from-height.ensures) in
     let narrow : c.from-width.result ≤ 1024 = omega (arith, f.width, c.from-width.ensures) in
-    let rows : c.count-counts.result.shows * c.from-height.result ≤ 65535 * 1024 = mul-le-mul c.count-counts.ensures.few.0 low in
-    let all : c.count-counts.result.shows * c.from-height.result * c.from-width.result ≤ 65535 * 1024 * 1024 = mul-le-mul rows narrow in
+    let rows : c.counts-counts.result.shows * c.from-height.result ≤ 65535 * 1024 = mul-le-mul c.counts-counts.ensures.few.0 low in
+    let all : c.counts-counts.result.shows * c.from-height.result * c.from-width.result ≤ 65535 * 1024 * 1024 = mul-le-mul rows narrow in
     record { fits = omega arith }
 
 pub returns : goal.returns
 returns c =
-    let m = c.in_ok-summary.summary in
-    let h = c.in_ok-summary.ensures in
+    let t = c.in_ok-file.file in
+    let h = c.in_ok-file.ensures in
     let eh = c.from-height.ensures in
     let ew = c.from-width.ensures in
-    let en = c.count-counts.ensures.shows in
-    let et = c.count-counts.ensures.triangles in
+    let en = c.counts-counts.ensures.shows in
+    let et = c.counts-counts.ensures.triangles in
     record {
-      images = h.0;
-      verdict = verdict c.args.file.now m h;
-      there = there c.args.file.now m _ h;
-      fits = bounds c.args.file.now m (λ k. (c.type_inv.file k).fits) h;
-      many = en;
+      known = record {
+        images = h.1.0;
+        same = h.0;
+        verdict = verdict c.args.file.now t h;
+        fits = bounds c.args.file.now t h (λ k. (c.type_inv.file k).fits);
+        many = en;
+      };
       colours = cc;
       depths = cc;
       work = cc;
