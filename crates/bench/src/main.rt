@@ -59,7 +59,7 @@ fn main(rt: HostRuntime) -> anyhow::Result<()> {
     let Ok(needs) = measure(&file) else {
         bail!("the file is refused; make says why");
     };
-    let mut memory = Memory::new(rt.alloc(), needs)?;
+    let mut memory = Memory::new(rt.alloc(), needs.lengths)?;
     let mut making = Duration::MAX;
     let mut judging = Duration::MAX;
     for _ in 0..options.frames.max(1) {

@@ -99,8 +99,8 @@ fn pictures(heap: Global, file: &[u8]) -> anyhow::Result<Option<usize>> {
     let Ok(needs) = measure(file) else {
         bail!("a random file is refused");
     };
-    let mut a = Memory::new(heap, needs)?;
-    let mut b = Memory::new(heap, needs)?;
+    let mut a = Memory::new(heap, needs.lengths)?;
+    let mut b = Memory::new(heap, needs.lengths)?;
     let (Ok(many), Ok(also)) = (a.paint(&Tiles, file), b.paint(&Meaning, file)) else {
         bail!("a random file was not made");
     };

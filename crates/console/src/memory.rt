@@ -4,7 +4,7 @@ ghost use Rattle.reference.specs.Made.{Made};
 
 use crate::painter::Painter;
 use codec::refusal::Refusal;
-use reference::job::Needs;
+use reference::lengths::Lengths;
 use std::alloc::{AllocError, Global};
 
 #[derive(Drop)]
@@ -16,17 +16,17 @@ pub struct Memory {
 }
 
 impl Memory {
-    pub fn new(heap: Global, needs: Needs) -> Result<Memory, AllocError>
-        ensures colours { IfOk result (λ m. m.colours.items ≡ replicate needs.colours 0) }
-        ensures depths { IfOk result (λ m. m.depths.items ≡ replicate needs.depths 0) }
-        ensures work { IfOk result (λ m. m.work.items ≡ replicate needs.work 0) }
-        ensures shown { IfOk result (λ m. m.shown.items ≡ replicate needs.shown 0) }
+    pub fn new(heap: Global, lengths: Lengths) -> Result<Memory, AllocError>
+        ensures colours { IfOk result (λ m. m.colours.items ≡ replicate lengths.colours 0) }
+        ensures depths { IfOk result (λ m. m.depths.items ≡ replicate lengths.depths 0) }
+        ensures work { IfOk result (λ m. m.work.items ≡ replicate lengths.work 0) }
+        ensures shown { IfOk result (λ m. m.shown.items ≡ replicate lengths.shown 0) }
     {
         Ok(Memory {
-            colours: vec![in heap; 0; needs.colours]?,
-            depths: vec![in heap; 0; needs.depths]?,
-            work: vec![in heap; 0; needs.work]?,
-            shown: vec![in heap; 0; needs.shown]?,
+            colours: vec![in heap; 0; lengths.colours]?,
+            depths: vec![in heap; 0; lengths.depths]?,
+            work: vec![in heap; 0; lengths.work]?,
+            shown: vec![in heap; 0; lengths.shown]?,
         })
     }
 

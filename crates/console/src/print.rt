@@ -7,19 +7,11 @@ ghost use Rattle.console.specs.Taken.{is_taken};
 use crate::memory::Memory;
 use crate::painter::Painter;
 use anyhow::bail;
-use codec::refusal::Refusal;
 use meaning::state::Size;
 use output::push_rows;
 use reference::job::measure;
 use std::fs;
 use std::io::Write;
-
-fn print_refusal(rt: &HostRuntime, refusal: Refusal) -> anyhow::Result<()> {
-    let number = refusal.number();
-    let place = refusal.place();
-    println!(rt; "refused {number} at {place}")?;
-    Ok(())
-}
 
 // One picture: its size, and its rows from the top.
 fn print_picture(rt: &HostRuntime, size: Size, dots: &[u8]) -> anyhow::Result<()> {
@@ -60,18 +52,22 @@ pub fn print_pictures<P: Painter>(
     let needs = match measure(file) {
         Ok(needs) => needs,
         Err(refusal) => {
-            print_refusal(rt, refusal)?;
+            println!(rt; "{refusal}")?;
             return Ok(false);
         }
     };
-    let Ok(mut memory) = Memory::new(rt.alloc(), needs) else {
+    let Ok(mut memory) = Memory::new(rt.alloc(), needs.lengths) else {
         bail!("there is not enough memory for the pictures");
     };
     if memory.paint(painter, file).is_err() {
         bail!("the memory that was lent is too short");
     }
-    let size = needs.summary.size;
-    for (k, dots) in memory.shown.chunks(needs.colours.max(1)).enumerate() {
+    let size = needs.job.file.summary.size;
+    for (k, dots) in memory
+        .shown
+        .chunks(needs.lengths.colours.max(1))
+        .enumerate()
+    {
         print_picture(rt, size, dots)?;
         if let Some(name) = ppm {
             write_ppm(rt, name, k.saturating_add(1), size, dots)?;

@@ -4,6 +4,7 @@
 use codec::judge::judge;
 use codec::refusal::Refusal;
 use reference::job::admit;
+use reference::lengths::Lengths;
 
 // 4 by 2 dots; a texture of 2 by 1; a pen, a clear and a show.
 const FILE: [u8; 41] = [
@@ -51,16 +52,7 @@ const CHANGES: [(&str, &[(usize, u8)]); 36] = [
     ("a last command of kind 7", &[(40, 7)]),
 ];
 
-// Lengths of lent memory.
-#[derive(Clone, Copy)]
-struct Lengths {
-    colours: usize,
-    depths: usize,
-    work: usize,
-    shown: usize,
-}
-
-// For 8 dots and one show.
+// The lengths of memory that 8 dots and one show need.
 const ENOUGH: Lengths = Lengths {
     colours: 24,
     depths: 8,
@@ -127,11 +119,7 @@ fn print_verdict<T: Drop>(
 ) -> anyhow::Result<()> {
     match verdict {
         Ok(_) => println!(rt; "{what}: taken")?,
-        Err(refusal) => {
-            let number = refusal.number();
-            let place = refusal.place();
-            println!(rt; "{what}: refused {number} at {place}")?;
-        }
+        Err(refusal) => println!(rt; "{what}: {refusal}")?,
     }
     Ok(())
 }
@@ -165,8 +153,7 @@ fn main(rt: HostRuntime) -> anyhow::Result<()> {
         print_verdict(&rt, what, judge(&changed(bytes)))?;
     }
     for (what, lent) in LENT {
-        let admission = admit(&FILE, lent.colours, lent.depths, lent.work, lent.shown);
-        print_verdict(&rt, what, admission)?;
+        print_verdict(&rt, what, admit(&FILE, lent))?;
     }
     Ok(())
 }

@@ -38,18 +38,6 @@ fn write_file(rt: &HostRuntime, name: &str, bytes: &[u8]) -> anyhow::Result<()> 
     Ok(())
 }
 
-// What is wrong with a list that is out of bounds although its text was read.
-fn reason(error: WriteError) -> &'static str {
-    match error {
-        WriteError::Size => "a size is out of range",
-        WriteError::Textures => "there are more than 64 textures",
-        WriteError::Texture(_) => "a texture is out of range",
-        WriteError::Commands => "there are more than 65535 commands",
-        WriteError::Command(_) => "a command is out of range",
-        WriteError::Memory => "there is not enough memory",
-    }
-}
-
 fn run(rt: &HostRuntime) -> anyhow::Result<()> {
     let mut args = env::args(rt)?.skip(1);
     let Some(from) = args.next() else {
@@ -69,18 +57,16 @@ fn run(rt: &HostRuntime) -> anyhow::Result<()> {
             eprintln!(rt; "write: {error}")?;
             bail!("nothing was written");
         }
-        Err(Problem::Memory) => bail!("there is not enough memory"),
+        Err(Problem::Memory) => return Err(WriteError::Memory.into()),
     };
-    match write(
+    let file = write(
         rt.alloc(),
         draft.size,
         &draft.textures,
         &draft.dots,
         &draft.commands,
-    ) {
-        Ok(bytes) => write_file(rt, to.as_str(), &bytes),
-        Err(error) => bail!("{}", reason(error)),
-    }
+    )?;
+    write_file(rt, to.as_str(), &file)
 }
 
 // What went wrong was said, and where no picture was made or no file written the status is 1.
