@@ -6,7 +6,7 @@ use anyhow::bail;
 use codec::part::TexturePart;
 use codec::writer::write;
 use console::memory::Memory;
-use console::painter::{Meaning, Tiles};
+use console::painter::{Meaning, Painter, Tiles};
 use meaning::command::Command;
 use meaning::pen::{Frame, Mix, Pen, Test};
 use meaning::state::Size;
@@ -94,18 +94,35 @@ fn random_file(heap: Global, random: &mut Random) -> anyhow::Result<Vec<u8>> {
     Ok(file)
 }
 
-// How many pictures both make of a file, or nothing where they differ.
-fn pictures(heap: Global, file: &[u8]) -> anyhow::Result<Option<usize>> {
+// What a painter makes of a file; what it leaves in the work is its own.
+#[derive(PartialEq, Drop)]
+struct Painting {
+    pictures: usize,
+    colours: Vec<u8>,
+    depths: Vec<u16>,
+    shown: Vec<u8>,
+}
+
+fn paint<P: Painter>(heap: Global, painter: &P, file: &[u8]) -> anyhow::Result<Painting> {
     let Ok(needs) = measure(file) else {
         bail!("a random file is refused");
     };
-    let mut a = Memory::new(heap, needs.lengths)?;
-    let mut b = Memory::new(heap, needs.lengths)?;
-    let (Ok(many), Ok(also)) = (a.paint(&Tiles, file), b.paint(&Meaning, file)) else {
+    let mut memory = Memory::new(heap, needs.lengths)?;
+    let Ok(pictures) = memory.paint(painter, file) else {
         bail!("a random file was not made");
     };
-    let same = many == also && a.colours == b.colours && a.depths == b.depths && a.shown == b.shown;
-    Ok(same.then_some(many))
+    let Memory {
+        colours,
+        depths,
+        shown,
+        ..
+    } = memory;
+    Ok(Painting {
+        pictures,
+        colours,
+        depths,
+        shown,
+    })
 }
 
 fn main(rt: HostRuntime) -> anyhow::Result<()> {
@@ -114,9 +131,12 @@ fn main(rt: HostRuntime) -> anyhow::Result<()> {
     let mut different = 0usize;
     for _ in 0..FILES {
         let file = random_file(rt.alloc(), &mut random)?;
-        match pictures(rt.alloc(), &file)? {
-            Some(many) => total = total.saturating_add(many),
-            None => different = different.saturating_add(1),
+        let made = paint(rt.alloc(), &Tiles, &file)?;
+        let meant = paint(rt.alloc(), &Meaning, &file)?;
+        if made == meant {
+            total = total.saturating_add(made.pictures);
+        } else {
+            different = different.saturating_add(1);
         }
     }
     let any = total > 1000;
