@@ -6,7 +6,6 @@ ghost use Rattle.codec.specs.Judged.{within};
 pub(crate) fn is_within(number: i32, bound: u32) -> bool
     ensures { result ≡ within bound number }
 {
-    let number = i64::from(number);
     let bound = i64::from(bound);
-    -bound <= number && number < bound
+    (-bound..bound).contains(&i64::from(number))
 }

@@ -36,6 +36,7 @@ impl Number<1> for u8 {
 
     ghost ordered = { Prim.search rules };
 
+    #[tactic(auto, using(crate::proofs::Judging::value_one))]
     fn from_bytes(bytes: [u8; 1]) -> u8
         ensures { result ≡ value bytes }
     {
@@ -50,6 +51,7 @@ impl Number<2> for u16 {
 
     ghost ordered = { Prim.search rules };
 
+    #[tactic(auto, using(crate::proofs::Judging::value_two))]
     fn from_bytes(bytes: [u8; 2]) -> u16
         ensures { result ≡ value bytes }
     {
@@ -64,6 +66,7 @@ impl Number<4> for u32 {
 
     ghost ordered = { Prim.search rules };
 
+    #[tactic(auto, using(crate::proofs::Judging::value_four))]
     fn from_bytes(bytes: [u8; 4]) -> u32
         ensures { result ≡ value bytes }
     {

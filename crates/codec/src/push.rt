@@ -9,12 +9,14 @@ use meaning::pen::{Frame, Pen};
 use std::alloc::AllocError;
 
 // A number of two bytes, the low one first.
+#[tactic(auto, unfolding(crate::specs::File::le))]
 pub(crate) fn push_word(out: &mut Vec<u8>, n: u16) -> Result<(), AllocError>
     ensures { OnOk result (out.new.items ≡ out.old.items ++ le 2 n) }
 {
     out.extend_from_slice(&n.to_le_bytes())
 }
 
+#[tactic(auto, using(crate::proofs::Appending::behind), unfolding(crate::specs::File::frame_bytes))]
 fn push_frame(out: &mut Vec<u8>, frame: Frame) -> Result<(), AllocError>
     ensures { OnOk result (out.new.items ≡ out.old.items ++ frame_bytes frame) }
 {
@@ -26,6 +28,7 @@ fn push_frame(out: &mut Vec<u8>, frame: Frame) -> Result<(), AllocError>
 }
 
 // A pen behind its kind, 1.
+#[tactic(auto, using(crate::proofs::Appending::behind, crate::proofs::Appending::flag_byte), unfolding(crate::specs::File::pen_bytes))]
 fn push_pen(out: &mut Vec<u8>, pen: Pen) -> Result<(), AllocError>
     ensures { OnOk result (out.new.items ≡ out.old.items ++ (1 ∷ pen_bytes pen)) }
 {
@@ -51,6 +54,7 @@ fn push_clear(out: &mut Vec<u8>, colour: [u8; 3], depth: u16) -> Result<(), Allo
 }
 
 // A command of any kind; one that cannot be written yet adds nothing.
+#[tactic(auto, unfolding(crate::specs::File::all, crate::specs::File::command_bytes))]
 fn push_command(out: &mut Vec<u8>, command: Command) -> Result<(), AllocError>
     ensures { OnOk result (out.new.items ≡ out.old.items ++ command_part command) }
 {
@@ -74,14 +78,13 @@ pub(crate) fn push_commands(out: &mut Vec<u8>, commands: &[Command]) -> Result<(
     Ok(())
 }
 
+#[tactic(auto, using(crate::proofs::Appending::behind), unfolding(crate::specs::File::image_bytes))]
 fn push_texture(out: &mut Vec<u8>, part: TexturePart, dots: &[u8]) -> Result<(), AllocError>
     requires { part_ok (length dots.now) part ≡ true }
     ensures { OnOk result (out.new.items ≡ out.old.items ++ image_bytes (part_image dots.now part)) }
 {
     out.extend_from_slice(&[part.across, part.down])?;
-    let start = part.start;
-    let end = start + part.size();
-    out.extend_from_slice(&dots[start..end])?;
+    out.extend_from_slice(&dots[part.start..][..part.size()])?;
     Ok(())
 }
 

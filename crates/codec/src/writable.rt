@@ -13,7 +13,7 @@ use meaning::state::Size;
 fn is_size(size: Size) -> bool
     ensures { result ≡ size_ok size }
 {
-    1 <= size.width && size.width <= 1024 && 1 <= size.height && size.height <= 1024
+    (1..=1024).contains(&size.width) && (1..=1024).contains(&size.height)
 }
 
 fn is_frame(frame: Frame, size: Size) -> bool
