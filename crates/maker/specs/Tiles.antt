@@ -6,9 +6,9 @@ use Rattle.meaning.specs.declared.pen.Frame.{Frame}
 use Rattle.meaning.specs.declared.state.Size.{Size}
 use Rattle.meaning.specs.Meaning.{Image, Instruction, in_frame}
 use Rattle.meaning.specs.Numbers.{header}
-use Rattle.codec.specs.declared.summary.Summary.{Summary}
-use Rattle.codec.specs.Walk.{listed}
-use Rattle.reference.specs.Shows.{Region, Through}
+use Rattle.codec.specs.declared.taken.TakenFile.{TakenFile}
+use Rattle.reference.specs.Shows.{Through}
+use Rattle.reference.specs.Dots.{Drawn}
 use Rattle.maker.specs.declared.tiles.Context.{Context}
 
 -- the frame of the whole picture
@@ -16,8 +16,8 @@ abbrev pub whole : Size → Frame
 whole s = record { left = 0; top = 0; right = s.width; bottom = s.height }
 
 -- all commands of a file were done for the dots of a frame
-abbrev pub Painted : List ℕ → Summary → Frame → List ℕ → List ℕ → List ℕ → List ℕ → List ℕ → List ℕ → Type 0
-Painted file m f C D S C' D' S' = (ts : List Image) → Region ts m.size (listed file m) (in_frame f) C D S C' D' S'
+abbrev pub Painted : TakenFile → Frame → List ℕ → List ℕ → List ℕ → List ℕ → List ℕ → List ℕ → Type 0
+Painted file f = Drawn file (in_frame f)
 
 -- some of the commands cs were done for the dots of a frame, with `left` to come
 abbrev pub Midway : List Image → Size → List Instruction → Frame → List ℕ → List ℕ → List ℕ → List Instruction → Context → List ℕ → List ℕ → List ℕ → Type 0

@@ -6,6 +6,7 @@ ghost use Rattle.reference.specs.Made.{Made, SamePictures};
 use crate::picture::paint_picture;
 use codec::refusal::Refusal;
 use reference::job::admit;
+use reference::lengths::Lengths;
 
 mod picture;
 mod tiles;
@@ -21,7 +22,7 @@ pub fn make(
     ensures made { Made file.now colours.old depths.old work.old shown.old result colours.new depths.new work.new shown.new }
     ensures same { SamePictures file.now colours.old depths.old work.old shown.old result shown.new }
 {
-    let job = admit(file, colours.len(), depths.len(), work.len(), shown.len())?;
-    paint_picture(file, job.summary, colours, depths, shown);
+    let job = admit(file, Lengths::of(colours, depths, work, shown))?;
+    paint_picture(job.file, colours, depths, shown);
     Ok(job.shows)
 }

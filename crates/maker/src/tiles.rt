@@ -2,13 +2,12 @@
 ghost use Rattle.std.specs.Prelude.{◌≡◌, ◌+◌, ◌<◌, ◌≤◌, true};
 ghost use Rattle.meaning.specs.Numbers.{kind_number};
 ghost use Rattle.codec.specs.Kinds.{built_yet};
-ghost use Rattle.codec.specs.Shows.{counts, shows};
-ghost use Rattle.codec.specs.Walk.{There, listed};
+ghost use Rattle.codec.specs.Shows.{counts};
 ghost use Rattle.reference.specs.Shows.{Room};
+ghost use Rattle.reference.specs.Dots.{RoomFor};
 ghost use Rattle.maker.specs.Tiles.{Obeyed, Painted};
 
-use codec::summary::Summary;
-use codec::walk::{before_commands, next};
+use codec::taken::TakenFile;
 use meaning::command::Command;
 use meaning::pen::{Frame, Pen};
 use meaning::projection::View;
@@ -62,28 +61,25 @@ fn obey(
 
 // All commands on a tile, from the beginning.
 pub(crate) fn paint_tile(
-    file: &[u8],
-    summary: Summary,
+    file: TakenFile<'_>,
     tile: Frame,
     colours: &mut [u8],
     depths: &mut [u16],
     shown: &mut [u8],
 )
-    requires there { There file.now summary }
-    requires inside { tile.bottom ≤ summary.size.height }
-    requires room { Room summary.size (shows (listed file.now summary)) colours.old depths.old shown.old }
-    ensures { Painted file.now summary tile colours.old depths.old shown.old colours.new depths.new shown.new }
+    requires inside { tile.bottom ≤ file.summary.size.height }
+    requires room { RoomFor file colours.old depths.old shown.old }
+    ensures { Painted file.entry tile colours.old depths.old shown.old colours.new depths.new shown.new }
 {
-    let begin = State::begin(summary.size);
-    clear_box(colours, depths, summary.size, tile, begin.dot);
+    let size = file.summary.size;
+    let begin = State::begin(size);
+    clear_box(colours, depths, size, tile, begin.dot);
     let mut context = Context {
         pen: begin.pen,
         view: begin.view,
         shown: 0,
     };
-    let mut reader = before_commands(file, summary);
-    for _ in 0..summary.commands {
-        let command = next(&mut reader, summary);
-        context = obey(command, context, summary.size, tile, colours, depths, shown);
+    for command in file.commands() {
+        context = obey(command, context, size, tile, colours, depths, shown);
     }
 }

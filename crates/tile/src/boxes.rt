@@ -33,6 +33,7 @@ fn part(length: u16, from: u16, to: u16) -> (usize, usize)
 fn fill_colours(row: &mut [u8], colour: [u8; 3])
     ensures { (k c : ℕ) → k < length row.old / 3 → c < 3 → get_or row.new (k * 3 + c) 0 ≡ get_or colour c 0 }
 {
+    // Kept: `row.as_chunks_mut::<3>().0.fill(colour)` has no proof, since nothing is known of what a slice ends as that was lent in chunks; nor has a loop over `chunks_exact_mut`.
     for k in 0..row.len() / 3 {
         row[k * 3..k * 3 + 3].copy_from_slice(&colour);
     }

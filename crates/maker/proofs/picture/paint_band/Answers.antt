@@ -1,8 +1,5 @@
-use Rattle.std.proofs.Common.{◌≡◌, ℕ, subst, arith}
-use Rattle.codec.specs.Walk.{listed}
-use Rattle.reference.specs.Boxes.{in_box}
-use Rattle.reference.proofs.Regions.{region_more, across}
-use Rattle.maker.specs.Tiles.{Painted}
+use Rattle.std.proofs.Common.{◌≡◌, ◌+◌, min, arith}
+use Rattle.maker.proofs.Tilings.{tile_more}
 use Rattle.maker.proofs.picture.paint_band.Goals as goal
 
 pub loop-left-preserved : goal.loop-left-preserved
@@ -10,20 +7,21 @@ loop-left-preserved c =
     let a = c.args in
     let b = a.band in
     let o = c.loop-left in
-    let right = c.tile_end-right.result in (
-      omega arith,
-      omega arith,
-      λ ts.
-          region_more ts a.summary.size (listed a.file.now a.summary) a.colours.now a.depths.now a.shown.now
-          (in_box b.left b.top o.left b.bottom) (in_box o.left b.top right b.bottom) (in_box b.left b.top right b.bottom)
-          o.colours o.depths o.shown c.paint_tile.new.colours c.paint_tile.new.depths c.paint_tile.new.shown
-          (across b.left o.left right b.top b.bottom (omega arith) (omega arith)) (o.invariant.2 ts) (c.paint_tile.ensures ts),
-    )
+    let p = c.paint_tile.new in
+    let e : min o.left b.right ≡ o.left = omega arith in
+    let n : c.tile_end.result ≡ min (o.left + c.from-left-step.result) b.right = omega (arith, c.tile_end.ensures, c.from-left-step.ensures) in
+    (omega arith, rw (← n) (tile_more a.file b.left b.top c.tile_end.result b.bottom a.colours.now a.depths.now a.shown.now o.colours o.depths o.shown p.colours p.depths p.shown o.left (omega arith) (omega (arith, c.tile_end.ensures)) (rw e at o.invariant.1) c.paint_tile.ensures))
 
 pub returns : goal.returns
 returns c =
+    let e : min c.loop-left.left c.args.band.right ≡ c.args.band.right = omega arith in rw e at c.loop-left.invariant.1
+
+pub returns-2 : goal.returns-2
+returns-2 c =
     let a = c.args in
     let b = a.band in
     let o = c.loop-left in
-    let e : o.left ≡ b.right = omega arith in
-    subst (λ (m : ℕ). Painted a.file.now a.summary (record { left = b.left; top = b.top; right = m; bottom = b.bottom }) a.colours.now a.depths.now a.shown.now o.colours o.depths o.shown) e o.invariant.2
+    let p = c.paint_tile.new in
+    let e : min o.left b.right ≡ o.left = omega arith in
+    let n : c.tile_end.result ≡ b.right = omega (arith, c.tile_end.ensures, c.from-left-step.ensures) in
+    rw (← n) (tile_more a.file b.left b.top c.tile_end.result b.bottom a.colours.now a.depths.now a.shown.now o.colours o.depths o.shown p.colours p.depths p.shown o.left (omega arith) (omega (arith, c.tile_end.ensures)) (rw e at o.invariant.1) c.paint_tile.ensures)

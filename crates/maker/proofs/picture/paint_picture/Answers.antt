@@ -1,28 +1,28 @@
-use Rattle.std.proofs.Common.{◌≡◌, ℕ, subst, arith}
-use Rattle.codec.specs.Walk.{listed}
-use Rattle.reference.specs.Boxes.{in_box}
-use Rattle.reference.proofs.Regions.{region_more, down}
+use Rattle.std.proofs.Common.{◌≡◌, ℕ, ◌+◌, min, subst, arith}
 use Rattle.maker.specs.Tiles.{Painted}
+use Rattle.maker.proofs.Tilings.{band_more}
 use Rattle.maker.proofs.picture.paint_picture.Goals as goal
 
 pub loop-top-preserved : goal.loop-top-preserved
 loop-top-preserved c =
     let a = c.args in
-    let s = a.summary.size in
+    let s = a.file.summary.size in
     let o = c.loop-top in
-    let bottom = c.tile_end-bottom.result in (
-      omega arith,
-      λ ts.
-          region_more ts s (listed a.file.now a.summary) a.colours.now a.depths.now a.shown.now
-          (in_box 0 0 s.width o.top) (in_box 0 o.top s.width bottom) (in_box 0 0 s.width bottom)
-          o.colours o.depths o.shown c.paint_band.new.colours c.paint_band.new.depths c.paint_band.new.shown
-          (down 0 s.width 0 o.top bottom (omega arith) (omega arith)) (o.invariant.1 ts) (c.paint_band.ensures ts),
-    )
+    let p = c.paint_band.new in
+    let e : min o.top s.height ≡ o.top = omega arith in
+    let n : c.tile_end.result ≡ min (o.top + c.from-top-step.result) s.height = omega (arith, c.tile_end.ensures, c.from-top-step.ensures) in
+    rw (← n) (band_more a.file 0 0 s.width c.tile_end.result a.colours.now a.depths.now a.shown.now o.colours o.depths o.shown p.colours p.depths p.shown o.top (omega arith) (omega (arith, c.tile_end.ensures)) (rw e at o.invariant) c.paint_band.ensures)
 
 pub returns : goal.returns
-returns c =
+returns c = let s = c.args.file.summary.size in let e : min c.loop-top.top s.height ≡ s.height = omega arith in rw e at c.loop-top.invariant
+
+pub returns-2 : goal.returns-2
+returns-2 c =
     let a = c.args in
-    let s = a.summary.size in
+    let s = a.file.summary.size in
     let o = c.loop-top in
-    let e : o.top ≡ s.height = omega arith in
-    subst (λ (m : ℕ). Painted a.file.now a.summary (record { left = 0; top = 0; right = s.width; bottom = m }) a.colours.now a.depths.now a.shown.now o.colours o.depths o.shown) e o.invariant.1
+    let p = c.paint_band.new in
+    let e : min o.top s.height ≡ o.top = omega arith in
+    let n : c.tile_end.result ≡ s.height = omega (arith, c.tile_end.ensures, c.from-top-step.ensures) in
+    subst (λ (m : ℕ). Painted a.file (record { left = 0; top = 0; right = s.width; bottom = m }) a.colours.now a.depths.now a.shown.now p.colours p.depths p.shown) n
+    (band_more a.file 0 0 s.width c.tile_end.result a.colours.now a.depths.now a.shown.now o.colours o.depths o.shown p.colours p.depths p.shown o.top (omega arith) (omega (arith, c.tile_end.ensures)) (rw e at o.invariant) c.paint_band.ensures)

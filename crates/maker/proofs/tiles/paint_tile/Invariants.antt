@@ -1,13 +1,14 @@
-use Rattle.std.proofs.Common.{ℕ, ◌≤◌, List}
-use Rattle.meaning.specs.Meaning.{Image, Instruction}
-use Rattle.codec.specs.Walk.{Ahead, listed}
+use Rattle.std.proofs.Common.{ℕ, ◌+◌, ◌≤◌, List, length}
+use Rattle.meaning.specs.Meaning.{Image}
+use Rattle.codec.specs.Taken.{commands_of, to_come}
 use Rattle.maker.specs.Tiles.{Midway}
 use Rattle.maker.proofs.tiles.paint_tile.Given as goal
 
-abbrev pub invariant-loop : goal.invariant-loop
-invariant-loop l =
-    (l.context.shown ≤ l.counter)
-    × ((left : List Instruction) × Ahead l.file l.summary l.counter l.reader left
+abbrev pub invariant-loop-command : goal.invariant-loop-command
+invariant-loop-command l =
+    (goal.iterator-loop-command).can_next l.command-iterator
+    × (goal.iterator-loop-command).is_finite l.command-iterator
+    × (l.context.shown + length (to_come l.command-iterator) ≤ 65535)
     × ((ts : List Image) (C D S : List ℕ) →
-    Midway ts l.summary.size (listed l.file l.summary) l.tile C D S (listed l.file l.summary) l.initial.context l.initial.colours l.initial.depths l.initial.shown →
-    Midway ts l.summary.size (listed l.file l.summary) l.tile C D S left l.context l.colours l.depths l.shown))
+    Midway ts l.size (commands_of l.file) l.tile C D S (commands_of l.file) l.initial.context l.initial.colours l.initial.depths l.initial.shown →
+    Midway ts l.size (commands_of l.file) l.tile C D S (to_come l.command-iterator) l.context l.colours l.depths l.shown)
