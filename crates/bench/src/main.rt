@@ -28,6 +28,7 @@ fn read_options(rt: &HostRuntime) -> anyhow::Result<Option<Options>> {
     };
     let mut frames = 5;
     let mut out = None;
+    // Kept: FRAMES and --out come in either order, and what lies behind the two was never read; no parser of options says that in fewer lines.
     for _ in 0..2 {
         let Some(word) = args.next() else {
             break;

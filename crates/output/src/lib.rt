@@ -42,6 +42,7 @@ pub fn push_rows(out: &mut String, size: Size, dots: &[u8]) -> Result<(), AllocE
     ensures { OnOk result (string_bytes out.new ≡ string_bytes out.old ++ rows_text size.height (3 * size.width) dots.now) }
 {
     let stride = 3 * usize::from(size.width);
+    // Kept: a picture has all its rows, also where the dots end early or a row has none; by chunks there would be fewer.
     let mut rest = dots;
     for _ in 0..size.height {
         let (row, behind) = rest.split_at(stride.min(rest.len()));

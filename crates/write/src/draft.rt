@@ -83,13 +83,13 @@ impl Draft {
         if !line.takes("dots") {
             return Err(line.wrong(LACKS_DOTS));
         }
-        for _ in 0..self.missing {
+        for left in (0..self.missing).rev() {
             if line.is_empty() {
                 break;
             }
             let dot = line.read("a dot, eight hexadecimal digits", four_bytes)?;
             self.dots.extend_from_slice(&dot)?;
-            self.missing = self.missing.saturating_sub(1);
+            self.missing = left;
         }
         Ok(())
     }
