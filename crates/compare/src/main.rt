@@ -108,9 +108,7 @@ fn paint<P: Painter>(heap: Global, painter: &P, file: &[u8]) -> anyhow::Result<P
         bail!("a random file is refused");
     };
     let mut memory = Memory::new(heap, needs.lengths)?;
-    let Ok(pictures) = memory.paint(painter, file) else {
-        bail!("a random file was not made");
-    };
+    let pictures = memory.paint(painter, file).unwrap();
     let Memory {
         colours,
         depths,

@@ -59,18 +59,12 @@ pub fn print_pictures<P: Painter>(
     let Ok(mut memory) = Memory::new(rt.alloc(), needs.lengths) else {
         bail!("there is not enough memory for the pictures");
     };
-    if memory.paint(painter, file).is_err() {
-        bail!("the memory that was lent is too short");
-    }
+    let _ = memory.paint(painter, file).unwrap();
     let size = needs.job.file.summary.size;
-    for (k, dots) in memory
-        .shown
-        .chunks(needs.lengths.colours.max(1))
-        .enumerate()
-    {
+    for (k, dots) in memory.shown.chunks(needs.lengths.colours).enumerate() {
         print_picture(rt, size, dots)?;
         if let Some(name) = ppm {
-            write_ppm(rt, name, k.saturating_add(1), size, dots)?;
+            write_ppm(rt, name, k + 1, size, dots)?;
         }
     }
     Ok(true)
