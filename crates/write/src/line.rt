@@ -1,5 +1,5 @@
 // A line of a text, read word by word.
-ghost use Rattle.std.specs.Prelude.{Some, IfOk};
+ghost use Rattle.std.specs.Prelude.{◌≤◌, length, Some, IfOk};
 
 use crate::problem::{Problem, TextError};
 use crate::word::decimal;
@@ -15,6 +15,7 @@ pub struct Line<'a> {
     words: &'a str,
     // the words that were not read yet, from the first one's first letter on
     rest: &'a str,
+    ghost inside: { length rest.now ≤ length words.now },
 }
 
 impl<'a> Line<'a> {
@@ -34,7 +35,9 @@ impl<'a> Line<'a> {
     }
 
     // The next word and what lies behind it; the word is empty where there is none.
-    fn split(&self) -> (&'a str, &'a str) {
+    fn split(&self) -> (&'a str, &'a str)
+        ensures { length result.1.now ≤ length self.now.rest.now }
+    {
         let (word, rest) = self.rest.split_once(BLANKS).unwrap_or((self.rest, ""));
         (word, rest.trim_start_matches(BLANKS))
     }
@@ -44,11 +47,11 @@ impl<'a> Line<'a> {
         let before = if self.rest.is_empty() {
             self.text.len()
         } else {
-            self.words.len().saturating_sub(self.rest.len())
+            self.words.len() - self.rest.len()
         };
         Problem::Text(TextError {
             line: self.number,
-            column: before.saturating_add(1),
+            column: before + 1,
             expected,
         })
     }

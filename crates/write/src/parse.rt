@@ -5,11 +5,11 @@ use crate::problem::Problem;
 use std::alloc::Global;
 
 pub(crate) fn parse(heap: Global, text: &str) -> Result<Draft, Problem> {
-    let end = Line::new(text.lines().count().saturating_add(1), "");
+    let end = Line::new(text.lines().count() + 1, "");
     let mut lines = text
         .lines()
         .enumerate()
-        .map(|(k, text)| Line::new(k.saturating_add(1), text))
+        .map(|(k, text)| Line::new(k + 1, text))
         .filter(|line| !line.is_empty());
     let mut first = lines.next().unwrap_or(end);
     let mut draft = Draft::new(heap, read_size(&mut first)?);
