@@ -42,6 +42,14 @@ impl<'a> Line<'a> {
         (word, rest.trim_start_matches(BLANKS))
     }
 
+    fn wrong_at(&self, column: usize, expected: &'static str) -> Problem {
+        Problem::Text(TextError {
+            line: self.number,
+            column,
+            expected,
+        })
+    }
+
     // An error where the next word begins, or at the end of a line that has none.
     pub(crate) fn wrong(&self, expected: &'static str) -> Problem {
         let before = if self.rest.is_empty() {
@@ -49,20 +57,12 @@ impl<'a> Line<'a> {
         } else {
             self.words.len() - self.rest.len()
         };
-        Problem::Text(TextError {
-            line: self.number,
-            column: before + 1,
-            expected,
-        })
+        self.wrong_at(before + 1, expected)
     }
 
     // An error at the beginning of the line.
     pub(crate) fn too_many(&self, expected: &'static str) -> Problem {
-        Problem::Text(TextError {
-            line: self.number,
-            column: 1,
-            expected,
-        })
+        self.wrong_at(1, expected)
     }
 
     // Nothing more may stand on the line.

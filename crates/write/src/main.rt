@@ -69,7 +69,7 @@ fn run(rt: &HostRuntime) -> anyhow::Result<()> {
     write_file(rt, to.as_str(), &file)
 }
 
-// What went wrong was said, and where no picture was made or no file written the status is 1.
+// Says what went wrong; where no file was written the status is 1.
 fn main(rt: HostRuntime) -> ExitCode {
     match run(&rt) {
         Ok(()) => ExitCode::SUCCESS,
