@@ -2,10 +2,11 @@
 #![tactic(auto)]
 
 use crate::random::Random;
-use anyhow::anyhow;
+use anyhow::bail;
 use codec::part::TexturePart;
 use codec::writer::write;
 use console::memory::Memory;
+use console::painter::{Meaning, Painter, Tiles};
 use meaning::command::Command;
 use meaning::pen::{Frame, Mix, Pen, Test};
 use meaning::state::Size;
@@ -50,24 +51,18 @@ fn random_frame(random: &mut Random, size: Size) -> Frame {
 }
 
 fn random_pen(random: &mut Random, size: Size) -> Pen {
-    let test = match random.below(5) {
-        0 => Test::Always,
-        1 => Test::Less,
-        2 => Test::LessOrEqual,
-        3 => Test::Equal,
-        _ => Test::Never,
-    };
-    let mix = match random.below(3) {
-        0 => Mix::Replace,
-        1 => Mix::Blend,
-        _ => Mix::Add,
-    };
-    let texture = if random.below(2) == 0 { 0 } else { 1 };
+    let tests = [
+        Test::Always,
+        Test::Less,
+        Test::LessOrEqual,
+        Test::Equal,
+        Test::Never,
+    ];
     Pen {
-        test,
-        keeps: random.below(2) == 0,
-        mix,
-        texture,
+        test: random.pick(&tests),
+        mix: random.pick(&[Mix::Replace, Mix::Blend, Mix::Add]),
+        texture: random.pick(&[0, 1]),
+        keeps: random.pick(&[true, false]),
         frame: random_frame(random, size),
     }
 }
@@ -93,58 +88,56 @@ fn random_file(heap: Global, random: &mut Random) -> anyhow::Result<Vec<u8>> {
     for _ in 0..random.below(21) {
         commands.push(random_command(random, size))?;
     }
-    match write(heap, size, &TEXTURES, &DOTS, &commands) {
-        Ok(file) => Ok(file),
-        Err(_) => Err(anyhow!("a random file could not be written")),
-    }
+    let Ok(file) = write(heap, size, &TEXTURES, &DOTS, &commands) else {
+        bail!("a random file could not be written");
+    };
+    Ok(file)
 }
 
-// How many pictures both make of a file, or nothing where they differ.
-fn pictures(heap: Global, file: &[u8]) -> anyhow::Result<Option<usize>> {
+// What a painter makes of a file; what it leaves in the work is its own.
+#[derive(PartialEq, Drop)]
+struct Painting {
+    pictures: usize,
+    colours: Vec<u8>,
+    depths: Vec<u16>,
+    shown: Vec<u8>,
+}
+
+fn paint<P: Painter>(heap: Global, painter: &P, file: &[u8]) -> anyhow::Result<Painting> {
     let Ok(needs) = measure(file) else {
-        return Err(anyhow!("a random file is refused"));
+        bail!("a random file is refused");
     };
-    let mut a = Memory::new(heap, needs)?;
-    let mut b = Memory::new(heap, needs)?;
-    let made = maker::make(
-        file,
-        &mut a.colours,
-        &mut a.depths,
-        &mut a.work,
-        &mut a.shown,
-    );
-    let meant = reference::mean(
-        file,
-        &mut b.colours,
-        &mut b.depths,
-        &mut b.work,
-        &mut b.shown,
-    );
-    let (Ok(many), Ok(also)) = (made, meant) else {
-        return Err(anyhow!("a random file was not made"));
-    };
-    if many == also && a.colours == b.colours && a.depths == b.depths && a.shown == b.shown {
-        return Ok(Some(many));
-    }
-    Ok(None)
+    let mut memory = Memory::new(heap, needs.lengths)?;
+    let pictures = memory.paint(painter, file).unwrap();
+    let Memory {
+        colours,
+        depths,
+        shown,
+        ..
+    } = memory;
+    Ok(Painting {
+        pictures,
+        colours,
+        depths,
+        shown,
+    })
 }
 
-fn run(rt: &HostRuntime) -> anyhow::Result<()> {
+fn main(rt: HostRuntime) -> anyhow::Result<()> {
     let mut random = Random::new(20_261_118);
     let mut total = 0usize;
     let mut different = 0usize;
     for _ in 0..FILES {
         let file = random_file(rt.alloc(), &mut random)?;
-        match pictures(rt.alloc(), &file)? {
-            Some(many) => total = total.saturating_add(many),
-            None => different = different.saturating_add(1),
+        let made = paint(rt.alloc(), &Tiles, &file)?;
+        let meant = paint(rt.alloc(), &Meaning, &file)?;
+        if made == meant {
+            total = total.saturating_add(made.pictures);
+        } else {
+            different = different.saturating_add(1);
         }
     }
     let any = total > 1000;
     println!(rt; "{FILES} files, more than 1000 pictures: {any}, files that differ: {different}")?;
     Ok(())
-}
-
-fn main(rt: HostRuntime) -> anyhow::Result<()> {
-    run(&rt)
 }

@@ -4,3 +4,4 @@
 pub mod memory;
 pub mod painter;
 pub mod print;
+pub mod program;

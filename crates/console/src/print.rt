@@ -6,29 +6,20 @@ ghost use Rattle.console.specs.Taken.{is_taken};
 
 use crate::memory::Memory;
 use crate::painter::Painter;
-use anyhow::anyhow;
-use codec::refusal::Refusal;
+use anyhow::bail;
 use meaning::state::Size;
 use output::push_rows;
 use reference::job::measure;
 use std::fs;
 use std::io::Write;
 
-fn print_refusal(rt: &HostRuntime, refusal: Refusal) -> anyhow::Result<()> {
-    let number = refusal.number();
-    let place = refusal.place();
-    println!(rt; "refused {number} at {place}")?;
-    Ok(())
-}
-
 // One picture: its size, and its rows from the top.
 fn print_picture(rt: &HostRuntime, size: Size, dots: &[u8]) -> anyhow::Result<()> {
-    let width = size.width;
-    let height = size.height;
+    let Size { width, height } = size;
     println!(rt; "picture {width} {height}")?;
-    let mut text = Vec::new(rt.alloc());
+    let mut text = String::new(rt.alloc());
     push_rows(&mut text, size, dots)?;
-    rt.stdout().write_all(&text)?;
+    rt.stdout().write_all(text.as_bytes())?;
     Ok(())
 }
 
@@ -40,11 +31,9 @@ fn write_ppm(
     size: Size,
     dots: &[u8],
 ) -> anyhow::Result<()> {
-    let width = size.width;
-    let height = size.height;
+    let Size { width, height } = size;
     let path = format!(in rt.alloc(); "{name}-{number}.ppm")?;
-    let head = format!(in rt.alloc(); "P6\n{width} {height}\n255\n")?;
-    let mut bytes = head.as_bytes().to_vec(rt.alloc())?;
+    let mut bytes = format!(in rt.alloc(); "P6\n{width} {height}\n255\n")?.into_bytes();
     bytes.extend_from_slice(dots)?;
     fs::write(rt, path.as_str(), bytes.as_slice())?;
     Ok(())
@@ -63,28 +52,19 @@ pub fn print_pictures<P: Painter>(
     let needs = match measure(file) {
         Ok(needs) => needs,
         Err(refusal) => {
-            print_refusal(rt, refusal)?;
+            println!(rt; "{refusal}")?;
             return Ok(false);
         }
     };
-    let Ok(mut memory) = Memory::new(rt.alloc(), needs) else {
-        return Err(anyhow!("there is not enough memory for the pictures"));
+    let Ok(mut memory) = Memory::new(rt.alloc(), needs.lengths) else {
+        bail!("there is not enough memory for the pictures");
     };
-    match painter.paint(
-        file,
-        &mut memory.colours,
-        &mut memory.depths,
-        &mut memory.work,
-        &mut memory.shown,
-    ) {
-        Ok(_) => {}
-        Err(_) => return Err(anyhow!("the memory that was lent is too short")),
-    }
-    let size = needs.summary.size;
-    for (k, dots) in memory.shown.chunks(needs.colours.max(1)).enumerate() {
+    let _ = memory.paint(painter, file).unwrap();
+    let size = needs.job.file.summary.size;
+    for (k, dots) in memory.shown.chunks(needs.lengths.colours).enumerate() {
         print_picture(rt, size, dots)?;
         if let Some(name) = ppm {
-            write_ppm(rt, name, k.saturating_add(1), size, dots)?;
+            write_ppm(rt, name, k + 1, size, dots)?;
         }
     }
     Ok(true)

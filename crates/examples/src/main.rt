@@ -1,14 +1,15 @@
 // Prints the six example pictures, each dot computed by the functions of the meaning.
 #![tactic(auto)]
 
-use crate::table::{Example, Step, all};
-use meaning::state::{Dot, State};
+use crate::table::{Example, LOOK, Step, alone, behind, pane, seam, shades, stripes};
+use meaning::command::Command;
+use meaning::state::{Dot, Size, State};
 
 mod table;
 
-// One dot through all commands, one after the other.
-fn dot_at(example: &Example, i: u16, j: u16) -> Dot {
-    let mut state = State::begin(example.size);
+// One dot through all steps, one after the other.
+fn dot_at<const STEPS: usize>(example: &Example<STEPS>, i: u16, j: u16) -> Dot {
+    let mut state = State::begin(example.size).obey(Command::Look(LOOK), i, j);
     for step in &example.steps {
         state = match step {
             Step::Command(command) => state.obey(*command, i, j),
@@ -18,9 +19,11 @@ fn dot_at(example: &Example, i: u16, j: u16) -> Dot {
     state.dot
 }
 
-fn print_picture(rt: &HostRuntime, example: &Example) -> anyhow::Result<()> {
-    let width = example.size.width;
-    let height = example.size.height;
+fn print_picture<const STEPS: usize>(
+    rt: &HostRuntime,
+    example: &Example<STEPS>,
+) -> anyhow::Result<()> {
+    let Size { width, height } = example.size;
     println!(rt; "picture {width} {height}")?;
     for j in 0..height {
         for i in 0..width {
@@ -33,13 +36,11 @@ fn print_picture(rt: &HostRuntime, example: &Example) -> anyhow::Result<()> {
     Ok(())
 }
 
-fn run(rt: &HostRuntime) -> anyhow::Result<()> {
-    for example in &all(rt.alloc())? {
-        print_picture(rt, example)?;
-    }
-    Ok(())
-}
-
 fn main(rt: HostRuntime) -> anyhow::Result<()> {
-    run(&rt)
+    print_picture(&rt, &alone())?;
+    print_picture(&rt, &seam())?;
+    print_picture(&rt, &behind())?;
+    print_picture(&rt, &pane())?;
+    print_picture(&rt, &shades())?;
+    print_picture(&rt, &stripes())
 }

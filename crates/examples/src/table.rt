@@ -6,7 +6,6 @@ use meaning::points::Corner;
 use meaning::projection::{Row, View};
 use meaning::state::Size;
 use meaning::texture::Texture;
-use std::alloc::{AllocError, Global};
 
 // A command, or one of the triangles behind it.
 #[derive(Clone, Copy)]
@@ -15,14 +14,15 @@ pub enum Step {
     Triangle([Corner; 3]),
 }
 
-#[derive(Drop)]
-pub struct Example {
+// What is done under the look.
+#[derive(Clone, Copy)]
+pub struct Example<const STEPS: usize> {
     pub size: Size,
     pub texture: Option<Texture<'static>>,
-    pub steps: Vec<Step>,
+    pub steps: [Step; STEPS],
 }
 
-const LOOK: View = View {
+pub const LOOK: View = View {
     across: Row {
         x: 65_536,
         y: 0,
@@ -86,94 +86,76 @@ fn whole_pen(size: Size) -> Pen {
 }
 
 // One triangle; the dots on its slanted edge are not its own.
-fn alone(heap: Global) -> Result<Example, AllocError> {
-    let size = Size {
-        width: 4,
-        height: 2,
-    };
+pub(crate) fn alone() -> Example<1> {
     let red = [0xff, 0, 0, 0xff];
     let triangle = [corner(0, 0, red), corner(1024, 0, red), corner(0, 512, red)];
-    let steps = vec![in heap;
-        Step::Command(Command::Look(LOOK)),
-        Step::Triangle(triangle),
-    ]?;
-    Ok(Example {
-        size,
+    Example {
+        size: Size {
+            width: 4,
+            height: 2,
+        },
         texture: None,
-        steps,
-    })
+        steps: [Step::Triangle(triangle)],
+    }
 }
 
 // Two triangles that meet at a slanted edge, added: of its four dots none gets both, none gets neither.
-fn seam(heap: Global) -> Result<Example, AllocError> {
+pub(crate) fn seam() -> Example<3> {
     let size = Size {
         width: 4,
         height: 4,
     };
-    let dark = [0x64, 0, 0, 0xff];
     let pen = Pen {
         mix: Mix::Add,
         ..whole_pen(size)
     };
+    let dark = [0x64, 0, 0, 0xff];
     let other = [
         corner(1024, 0, dark),
         corner(1024, 1024, dark),
         corner(0, 1024, dark),
     ];
-    let steps = vec![in heap;
-        Step::Command(Command::Look(LOOK)),
-        Step::Command(Command::Pen(pen)),
-        Step::Triangle(half(dark)),
-        Step::Triangle(other),
-    ]?;
-    Ok(Example {
+    Example {
         size,
         texture: None,
-        steps,
-    })
+        steps: [
+            Step::Command(Command::Pen(pen)),
+            Step::Triangle(half(dark)),
+            Step::Triangle(other),
+        ],
+    }
 }
 
 // A triangle twice as far away behind another.
-fn behind(heap: Global) -> Result<Example, AllocError> {
+pub(crate) fn behind() -> Example<3> {
     let size = Size {
         width: 2,
         height: 1,
     };
-    let blue = [0, 0, 0xff, 0xff];
     let pen = Pen {
         test: Test::Less,
         keeps: true,
         ..whole_pen(size)
     };
+    let blue = [0, 0, 0xff, 0xff];
     let far = [
-        Corner {
-            z: 512,
-            ..corner(0, 0, blue)
-        },
-        Corner {
-            z: 512,
-            ..corner(2048, 0, blue)
-        },
-        Corner {
-            z: 512,
-            ..corner(0, 2048, blue)
-        },
+        corner(0, 0, blue),
+        corner(2048, 0, blue),
+        corner(0, 2048, blue),
     ];
-    let steps = vec![in heap;
-        Step::Command(Command::Look(LOOK)),
-        Step::Command(Command::Pen(pen)),
-        Step::Triangle(half([0xff, 0, 0, 0xff])),
-        Step::Triangle(far),
-    ]?;
-    Ok(Example {
+    Example {
         size,
         texture: None,
-        steps,
-    })
+        steps: [
+            Step::Command(Command::Pen(pen)),
+            Step::Triangle(half([0xff, 0, 0, 0xff])),
+            Step::Triangle(far.map(|corner| Corner { z: 512, ..corner })),
+        ],
+    }
 }
 
 // A half green pane over red, in a frame without the first dot.
-fn pane(heap: Global) -> Result<Example, AllocError> {
+pub(crate) fn pane() -> Example<3> {
     let size = Size {
         width: 2,
         height: 1,
@@ -182,98 +164,67 @@ fn pane(heap: Global) -> Result<Example, AllocError> {
         colour: [0xff, 0, 0],
         depth: 65_535,
     };
-    let frame = Frame {
-        left: 1,
-        top: 0,
-        right: 2,
-        bottom: 1,
-    };
+    let whole = whole_pen(size);
     let pen = Pen {
         mix: Mix::Blend,
-        frame,
-        ..whole_pen(size)
+        frame: Frame {
+            left: 1,
+            ..whole.frame
+        },
+        ..whole
     };
-    let steps = vec![in heap;
-        Step::Command(Command::Look(LOOK)),
-        Step::Command(clear),
-        Step::Command(Command::Pen(pen)),
-        Step::Triangle(half([0, 0xff, 0, 128])),
-    ]?;
-    Ok(Example {
+    Example {
         size,
         texture: None,
-        steps,
-    })
+        steps: [
+            Step::Command(clear),
+            Step::Command(Command::Pen(pen)),
+            Step::Triangle(half([0, 0xff, 0, 128])),
+        ],
+    }
 }
 
 // From black to white; the fourth dot lies on the slanted edge, which goes down and does not own it.
-fn shades(heap: Global) -> Result<Example, AllocError> {
-    let size = Size {
-        width: 4,
-        height: 1,
-    };
+pub(crate) fn shades() -> Example<1> {
     let black = [0, 0, 0, 0xff];
     let triangle = [
         corner(0, 0, black),
         corner(1024, 0, [0xff; 4]),
         corner(0, 1024, black),
     ];
-    let steps = vec![in heap;
-        Step::Command(Command::Look(LOOK)),
-        Step::Triangle(triangle),
-    ]?;
-    Ok(Example {
-        size,
+    Example {
+        size: Size {
+            width: 4,
+            height: 1,
+        },
         texture: None,
-        steps,
-    })
+        steps: [Step::Triangle(triangle)],
+    }
 }
 
 // A texture of two dots, which begins again beyond its edge.
-fn stripes(heap: Global) -> Result<Example, AllocError> {
+pub(crate) fn stripes() -> Example<2> {
     let size = Size {
         width: 4,
         height: 1,
     };
-    let white = [0xff; 4];
     let pen = Pen {
         texture: 1,
         ..whole_pen(size)
     };
+    let [start, right, bottom] = half([0xff; 4]);
     let triangle = [
-        corner(0, 0, white),
-        Corner {
-            u: 1024,
-            ..corner(1024, 0, white)
-        },
-        Corner {
-            v: 1024,
-            ..corner(0, 1024, white)
-        },
+        start,
+        Corner { u: 1024, ..right },
+        Corner { v: 1024, ..bottom },
     ];
-    let steps = vec![in heap;
-        Step::Command(Command::Look(LOOK)),
-        Step::Command(Command::Pen(pen)),
-        Step::Triangle(triangle),
-    ]?;
-    Ok(Example {
+    Example {
         size,
         texture: Some(Texture {
             across: 1,
             down: 0,
             dots: &RED_BLUE,
         }),
-        steps,
-    })
-}
-
-pub(crate) fn all(heap: Global) -> Result<Vec<Example>, AllocError> {
-    let mut examples = Vec::new(heap);
-    examples.push(alone(heap)?)?;
-    examples.push(seam(heap)?)?;
-    examples.push(behind(heap)?)?;
-    examples.push(pane(heap)?)?;
-    examples.push(shades(heap)?)?;
-    examples.push(stripes(heap)?)?;
-    Ok(examples)
+        steps: [Step::Command(Command::Pen(pen)), Step::Triangle(triangle)],
+    }
 }

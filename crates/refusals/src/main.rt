@@ -4,6 +4,7 @@
 use codec::judge::judge;
 use codec::refusal::Refusal;
 use reference::job::admit;
+use reference::lengths::Lengths;
 
 // 4 by 2 dots; a texture of 2 by 1; a pen, a clear and a show.
 const FILE: [u8; 41] = [
@@ -11,285 +12,148 @@ const FILE: [u8; 41] = [
     0, 0, 4, 0, 2, 0, 3, 255, 128, 0, 232, 3, 5,
 ];
 
-// Bytes of the file that are given other values.
-struct Change {
-    bytes: &'static [(usize, u8)],
-    what: &'static str,
-}
-
-const CHANGES: [Change; 36] = [
-    Change {
-        bytes: &[(0, 69)],
-        what: "another first letter",
-    },
-    Change {
-        bytes: &[(3, 82)],
-        what: "another last letter",
-    },
-    Change {
-        bytes: &[(4, 0)],
-        what: "a width of 0",
-    },
-    Change {
-        bytes: &[(4, 0), (5, 4)],
-        what: "a width of 1024",
-    },
-    Change {
-        bytes: &[(4, 1), (5, 4)],
-        what: "a width of 1025",
-    },
-    Change {
-        bytes: &[(6, 0)],
-        what: "a height of 0",
-    },
-    Change {
-        bytes: &[(6, 0), (7, 4)],
-        what: "a height of 1024",
-    },
-    Change {
-        bytes: &[(6, 1), (7, 4)],
-        what: "a height of 1025",
-    },
-    Change {
-        bytes: &[(8, 65)],
-        what: "65 textures",
-    },
-    Change {
-        bytes: &[(9, 9)],
-        what: "a texture 2^9 wide",
-    },
-    Change {
-        bytes: &[(10, 9)],
-        what: "a texture 2^9 high",
-    },
-    Change {
-        bytes: &[(9, 8)],
-        what: "a texture 2^8 wide, whose dots are not there",
-    },
-    Change {
-        bytes: &[(11, 0)],
-        what: "a texture's dot of another colour",
-    },
-    Change {
-        bytes: &[(19, 4)],
-        what: "4 commands, of which 3 are there",
-    },
-    Change {
-        bytes: &[(19, 2)],
-        what: "2 commands, behind which is a third",
-    },
-    Change {
-        bytes: &[(19, 0)],
-        what: "no commands, behind which are three",
-    },
-    Change {
-        bytes: &[(21, 0)],
-        what: "a command of kind 0",
-    },
-    Change {
-        bytes: &[(21, 2)],
-        what: "a command of kind 2",
-    },
-    Change {
-        bytes: &[(21, 4)],
-        what: "a command of kind 4",
-    },
-    Change {
-        bytes: &[(21, 6)],
-        what: "a command of kind 6",
-    },
-    Change {
-        bytes: &[(22, 4)],
-        what: "test 4",
-    },
-    Change {
-        bytes: &[(22, 5)],
-        what: "test 5",
-    },
-    Change {
-        bytes: &[(23, 2)],
-        what: "keeps 2",
-    },
-    Change {
-        bytes: &[(24, 2)],
-        what: "mix 2",
-    },
-    Change {
-        bytes: &[(24, 3)],
-        what: "mix 3",
-    },
-    Change {
-        bytes: &[(25, 0)],
-        what: "no texture",
-    },
-    Change {
-        bytes: &[(25, 2)],
-        what: "texture 2 of 1",
-    },
-    Change {
-        bytes: &[(26, 4)],
-        what: "a frame from left 4 to right 4",
-    },
-    Change {
-        bytes: &[(26, 5)],
-        what: "a frame from left 5 to right 4",
-    },
-    Change {
-        bytes: &[(28, 2)],
-        what: "a frame from top 2 to bottom 2",
-    },
-    Change {
-        bytes: &[(28, 3)],
-        what: "a frame from top 3 to bottom 2",
-    },
-    Change {
-        bytes: &[(30, 5)],
-        what: "a frame to right 5 of 4",
-    },
-    Change {
-        bytes: &[(31, 1)],
-        what: "a frame to right 260 of 4",
-    },
-    Change {
-        bytes: &[(32, 3)],
-        what: "a frame to bottom 3 of 2",
-    },
-    Change {
-        bytes: &[(38, 255)],
-        what: "another depth",
-    },
-    Change {
-        bytes: &[(40, 7)],
-        what: "a last command of kind 7",
-    },
+// What is done to the file: bytes that are given other values.
+const CHANGES: [(&str, &[(usize, u8)]); 36] = [
+    ("another first letter", &[(0, 69)]),
+    ("another last letter", &[(3, 82)]),
+    ("a width of 0", &[(4, 0)]),
+    ("a width of 1024", &[(4, 0), (5, 4)]),
+    ("a width of 1025", &[(4, 1), (5, 4)]),
+    ("a height of 0", &[(6, 0)]),
+    ("a height of 1024", &[(6, 0), (7, 4)]),
+    ("a height of 1025", &[(6, 1), (7, 4)]),
+    ("65 textures", &[(8, 65)]),
+    ("a texture 2^9 wide", &[(9, 9)]),
+    ("a texture 2^9 high", &[(10, 9)]),
+    ("a texture 2^8 wide, whose dots are not there", &[(9, 8)]),
+    ("a texture's dot of another colour", &[(11, 0)]),
+    ("4 commands, of which 3 are there", &[(19, 4)]),
+    ("2 commands, behind which is a third", &[(19, 2)]),
+    ("no commands, behind which are three", &[(19, 0)]),
+    ("a command of kind 0", &[(21, 0)]),
+    ("a command of kind 2", &[(21, 2)]),
+    ("a command of kind 4", &[(21, 4)]),
+    ("a command of kind 6", &[(21, 6)]),
+    ("test 4", &[(22, 4)]),
+    ("test 5", &[(22, 5)]),
+    ("keeps 2", &[(23, 2)]),
+    ("mix 2", &[(24, 2)]),
+    ("mix 3", &[(24, 3)]),
+    ("no texture", &[(25, 0)]),
+    ("texture 2 of 1", &[(25, 2)]),
+    ("a frame from left 4 to right 4", &[(26, 4)]),
+    ("a frame from left 5 to right 4", &[(26, 5)]),
+    ("a frame from top 2 to bottom 2", &[(28, 2)]),
+    ("a frame from top 3 to bottom 2", &[(28, 3)]),
+    ("a frame to right 5 of 4", &[(30, 5)]),
+    ("a frame to right 260 of 4", &[(31, 1)]),
+    ("a frame to bottom 3 of 2", &[(32, 3)]),
+    ("another depth", &[(38, 255)]),
+    ("a last command of kind 7", &[(40, 7)]),
 ];
 
-// Lengths of lent memory: for 8 dots and one show 24 colours, 8 depths, 32 words of work and 24 bytes for what is shown are just enough.
-struct Lengths {
-    colours: usize,
-    depths: usize,
-    work: usize,
-    shown: usize,
-    what: &'static str,
-}
+// The lengths of memory that 8 dots and one show need.
+const ENOUGH: Lengths = Lengths {
+    colours: 24,
+    depths: 8,
+    work: 32,
+    shown: 24,
+};
 
-const LENT: [Lengths; 8] = [
-    Lengths {
-        colours: 24,
-        depths: 8,
-        work: 32,
-        shown: 24,
-        what: "just enough memory",
-    },
-    Lengths {
-        colours: 99,
-        depths: 99,
-        work: 99,
-        shown: 99,
-        what: "more than enough memory",
-    },
-    Lengths {
-        colours: 23,
-        depths: 8,
-        work: 32,
-        shown: 24,
-        what: "a colour's byte short",
-    },
-    Lengths {
-        colours: 24,
-        depths: 7,
-        work: 32,
-        shown: 24,
-        what: "a depth short",
-    },
-    Lengths {
-        colours: 24,
-        depths: 8,
-        work: 31,
-        shown: 24,
-        what: "a word of work short",
-    },
-    Lengths {
-        colours: 24,
-        depths: 8,
-        work: 32,
-        shown: 23,
-        what: "a byte of what is shown short",
-    },
-    Lengths {
-        colours: 24,
-        depths: 0,
-        work: 0,
-        shown: 0,
-        what: "everything but the colours short",
-    },
-    Lengths {
-        colours: 24,
-        depths: 8,
-        work: 0,
-        shown: 0,
-        what: "work and shown short",
-    },
+const LENT: [(&str, Lengths); 8] = [
+    ("just enough memory", ENOUGH),
+    (
+        "more than enough memory",
+        Lengths {
+            colours: 99,
+            depths: 99,
+            work: 99,
+            shown: 99,
+        },
+    ),
+    (
+        "a colour's byte short",
+        Lengths {
+            colours: 23,
+            ..ENOUGH
+        },
+    ),
+    (
+        "a depth short",
+        Lengths {
+            depths: 7,
+            ..ENOUGH
+        },
+    ),
+    ("a word of work short", Lengths { work: 31, ..ENOUGH }),
+    (
+        "a byte of what is shown short",
+        Lengths {
+            shown: 23,
+            ..ENOUGH
+        },
+    ),
+    (
+        "everything but the colours short",
+        Lengths {
+            depths: 0,
+            work: 0,
+            shown: 0,
+            ..ENOUGH
+        },
+    ),
+    (
+        "work and shown short",
+        Lengths {
+            work: 0,
+            shown: 0,
+            ..ENOUGH
+        },
+    ),
 ];
 
-fn print_refusal(rt: &HostRuntime, what: &str, refusal: Refusal) -> anyhow::Result<()> {
-    let number = refusal.number();
-    let place = refusal.place();
-    println!(rt; "{what}: refused {number} at {place}")?;
-    Ok(())
-}
-
-fn print_admission(rt: &HostRuntime, lent: &Lengths) -> anyhow::Result<()> {
-    let what = lent.what;
-    match admit(&FILE, lent.colours, lent.depths, lent.work, lent.shown) {
+fn print_verdict<T: Drop>(
+    rt: &HostRuntime,
+    what: &str,
+    verdict: Result<T, Refusal>,
+) -> anyhow::Result<()> {
+    match verdict {
         Ok(_) => println!(rt; "{what}: taken")?,
-        Err(refusal) => print_refusal(rt, what, refusal)?,
-    }
-    Ok(())
-}
-
-fn print_verdict(rt: &HostRuntime, what: &str, file: &[u8]) -> anyhow::Result<()> {
-    match judge(file) {
-        Ok(_) => println!(rt; "{what}: taken")?,
-        Err(refusal) => print_refusal(rt, what, refusal)?,
+        Err(refusal) => println!(rt; "{what}: {refusal}")?,
     }
     Ok(())
 }
 
 // The file cut off before each of its bytes.
-fn cuts(rt: &HostRuntime) -> anyhow::Result<()> {
+fn print_cuts(rt: &HostRuntime) -> anyhow::Result<()> {
     for n in 0..FILE.len() {
         let what = format!(in rt.alloc(); "{n} bytes")?;
-        print_verdict(rt, what.as_str(), &FILE[0..n])?;
+        print_verdict(rt, what.as_str(), judge(&FILE[..n]))?;
     }
     Ok(())
 }
 
-fn changed(change: &Change) -> [u8; 41] {
+fn changed(bytes: &[(usize, u8)]) -> [u8; 41] {
     let mut file = FILE;
-    for (at, value) in change.bytes {
-        if *at < file.len() {
-            file[*at] = *value;
+    for (at, value) in bytes {
+        if let Some(byte) = file.get_mut(*at) {
+            *byte = *value;
         }
     }
     file
 }
 
-fn run(rt: &HostRuntime) -> anyhow::Result<()> {
-    print_verdict(rt, "the file", &FILE)?;
-    cuts(rt)?;
+fn main(rt: HostRuntime) -> anyhow::Result<()> {
+    print_verdict(&rt, "the file", judge(&FILE))?;
+    print_cuts(&rt)?;
     let mut longer = FILE.to_vec(rt.alloc())?;
     longer.push(5)?;
-    print_verdict(rt, "a byte too many", &longer)?;
-    for change in &CHANGES {
-        print_verdict(rt, change.what, &changed(change))?;
+    print_verdict(&rt, "a byte too many", judge(&longer))?;
+    for (what, bytes) in CHANGES {
+        print_verdict(&rt, what, judge(&changed(bytes)))?;
     }
-    for lent in &LENT {
-        print_admission(rt, lent)?;
+    for (what, lent) in LENT {
+        print_verdict(&rt, what, admit(&FILE, lent))?;
     }
     Ok(())
-}
-
-fn main(rt: HostRuntime) -> anyhow::Result<()> {
-    run(&rt)
 }

@@ -1,185 +1,127 @@
-// The words of a line, from left to right.
-ghost use Rattle.std.specs.Prelude.{◌≤◌, length};
+// A line of a text, read word by word.
+ghost use Rattle.std.specs.Prelude.{◌≤◌, length, Some, IfOk};
 
 use crate::problem::{Problem, TextError};
+use crate::word::decimal;
+use std::ops::RangeInclusive;
 
-#[derive(Clone, Copy)]
-pub struct Word<'a> {
-    pub text: &'a [u8],
-    pub start: usize,
-    pub end: usize,
-}
+const BLANKS: [char; 3] = [' ', '\t', '\r'];
 
-fn is_blank(byte: u8) -> bool {
-    byte == b' ' || byte == b'\t' || byte == b'\r'
-}
-
-// Where a word begins; a comment ends the line.
-fn word_start(line: &[u8], from: usize) -> usize
-    ensures { result ≤ length line.now }
-{
-    for k in from..line.len() {
-        if line[k] == b'#' {
-            return line.len();
-        }
-        if !is_blank(line[k]) {
-            return k;
-        }
-    }
-    line.len()
-}
-
-fn word_end(line: &[u8], from: usize) -> usize
-    requires { from ≤ length line.now }
-    ensures after { from ≤ result }
-    ensures within { result ≤ length line.now }
-{
-    for k in from..line.len() {
-        if is_blank(line[k]) || line[k] == b'#' {
-            return k;
-        }
-    }
-    line.len()
-}
-
-// The first word from a place on; it is empty where there is none.
-fn word_from(line: &[u8], from: usize) -> Word<'_> {
-    let start = word_start(line, from);
-    let end = word_end(line, start);
-    Word {
-        text: &line[start..end],
-        start,
-        end,
-    }
-}
-
-// A decimal number, or nothing where it is none or too large.
-fn decimal(text: &[u8]) -> Option<u32> {
-    if text.is_empty() {
-        return None;
-    }
-    let mut value = 0u32;
-    for byte in text {
-        if *byte < b'0' || b'9' < *byte {
-            return None;
-        }
-        value = value.checked_mul(10)?.checked_add(u32::from(*byte - b'0'))?;
-    }
-    Some(value)
-}
-
-fn hex_digit(byte: u8) -> Option<u8> {
-    match byte {
-        b'0'..=b'9' => Some(byte - b'0'),
-        b'a'..=b'f' => Some(byte - b'a' + 10),
-        b'A'..=b'F' => Some(byte - b'A' + 10),
-        _ => None,
-    }
-}
-
-fn hex_byte(high: u8, low: u8) -> Option<u8> {
-    let high = hex_digit(high)?;
-    let low = hex_digit(low)?;
-    Some((high % 16) * 16 + low % 16)
-}
-
-// Where a line is being read.
 #[derive(Clone, Copy)]
 pub struct Line<'a> {
-    pub bytes: &'a [u8],
-    pub number: usize,
-    pub at: usize,
+    number: usize,
+    text: &'a str,
+    // what lies before a comment
+    words: &'a str,
+    // the words that were not read yet, from the first one's first letter on
+    rest: &'a str,
+    ghost inside: { length rest.now ≤ length words.now },
 }
 
-impl Line<'_> {
-    fn fail(&self, at: usize, expected: &'static str) -> Problem {
+impl<'a> Line<'a> {
+    // A line and its number, from 1 on.
+    pub(crate) fn new(number: usize, text: &'a str) -> Line<'a> {
+        let (words, _comment) = text.split_once('#').unwrap_or((text, ""));
+        Line {
+            number,
+            text,
+            words,
+            rest: words.trim_start_matches(BLANKS),
+        }
+    }
+
+    pub(crate) fn is_empty(&self) -> bool {
+        self.rest.is_empty()
+    }
+
+    // The next word and what lies behind it; the word is empty where there is none.
+    fn split(&self) -> (&'a str, &'a str)
+        ensures { length result.1.now ≤ length self.now.rest.now }
+    {
+        let (word, rest) = self.rest.split_once(BLANKS).unwrap_or((self.rest, ""));
+        (word, rest.trim_start_matches(BLANKS))
+    }
+
+    fn wrong_at(&self, column: usize, expected: &'static str) -> Problem {
         Problem::Text(TextError {
             line: self.number,
-            column: at.saturating_add(1),
+            column,
             expected,
         })
     }
 
-    // Where the next word begins.
-    pub(crate) fn here(&self) -> usize {
-        word_start(self.bytes, self.at)
+    // An error where the next word begins, or at the end of a line that has none.
+    pub(crate) fn wrong(&self, expected: &'static str) -> Problem {
+        let before = if self.rest.is_empty() {
+            self.text.len()
+        } else {
+            self.words.len() - self.rest.len()
+        };
+        self.wrong_at(before + 1, expected)
     }
 
-    // An error at the place where a word began.
-    pub(crate) fn wrong<T>(&self, at: usize, expected: &'static str) -> Result<T, Problem> {
-        Err(self.fail(at, expected))
+    // An error at the beginning of the line.
+    pub(crate) fn too_many(&self, expected: &'static str) -> Problem {
+        self.wrong_at(1, expected)
+    }
+
+    // Nothing more may stand on the line.
+    pub(crate) fn end(&self) -> Result<(), Problem> {
+        if self.is_empty() {
+            return Ok(());
+        }
+        Err(self.wrong("the end of the line"))
     }
 
     // Whether the next word is this one; it is passed over only then.
-    pub(crate) fn takes(&mut self, word: &[u8]) -> bool {
-        let found = word_from(self.bytes, self.at);
-        if found.text == word {
-            self.at = found.end;
+    pub(crate) fn takes(&mut self, word: &str) -> bool {
+        let (found, rest) = self.split();
+        if found == word {
+            self.rest = rest;
             return true;
         }
         false
     }
 
-    // Nothing more may stand on the line.
-    pub(crate) fn end(&self) -> Result<(), Problem> {
-        let found = word_from(self.bytes, self.at);
-        if found.text.is_empty() {
-            return Ok(());
-        }
-        self.wrong(found.start, "the end of the line")
+    // What the next word says, which is passed over unless it says nothing.
+    pub(crate) fn read<T, F: FnOnce(&str) -> Option<T>>(
+        &mut self,
+        expected: &'static str,
+        meaning: F,
+    ) -> Result<T, Problem>
+        requires { F.IsAlwaysCallable meaning }
+        ensures { IfOk result (λ v. (w : _) × F.post meaning w (Some v)) }
+    {
+        let (word, rest) = self.split();
+        let Some(value) = meaning(word) else {
+            return Err(self.wrong(expected));
+        };
+        self.rest = rest;
+        Ok(value)
     }
 
-    pub(crate) fn is_empty(&self) -> bool {
-        word_from(self.bytes, self.at).text.is_empty()
-    }
-
-    // A number from least to most.
+    // A number of a range.
     pub(crate) fn number(
         &mut self,
-        least: u32,
-        most: u32,
+        range: RangeInclusive<u16>,
         expected: &'static str,
-    ) -> Result<u32, Problem> {
-        let found = word_from(self.bytes, self.at);
-        match decimal(found.text) {
-            Some(value) if least <= value && value <= most => {
-                self.at = found.end;
-                Ok(value)
-            }
-            _ => self.wrong(found.start, expected),
-        }
+    ) -> Result<u16, Problem> {
+        self.read(expected, |word| {
+            decimal(word).filter(|number| range.contains(number))
+        })
     }
 
-    // A colour of three bytes in six hexadecimal digits.
-    pub(crate) fn three(&mut self, expected: &'static str) -> Result<[u8; 3], Problem> {
-        let found = word_from(self.bytes, self.at);
-        if let [a, b, c, d, e, f] = found.text {
-            if let (Some(r), Some(g), Some(b)) = (
-                hex_byte(*a, *b),
-                hex_byte(*c, *d),
-                hex_byte(*e, *f),
-            ) {
-                self.at = found.end;
-                return Ok([r, g, b]);
-            }
-        }
-        self.wrong(found.start, expected)
-    }
-
-    // A colour of four bytes in eight hexadecimal digits.
-    pub(crate) fn four(&mut self, expected: &'static str) -> Result<[u8; 4], Problem> {
-        let found = word_from(self.bytes, self.at);
-        if let [a, b, c, d, e, f, g, h] = found.text {
-            if let (Some(r), Some(g), Some(b), Some(a)) = (
-                hex_byte(*a, *b),
-                hex_byte(*c, *d),
-                hex_byte(*e, *f),
-                hex_byte(*g, *h),
-            ) {
-                self.at = found.end;
-                return Ok([r, g, b, a]);
-            }
-        }
-        self.wrong(found.start, expected)
+    // The value beside the next word in a table.
+    pub(crate) fn choice<T: Copy>(
+        &mut self,
+        table: &[(&str, T)],
+        expected: &'static str,
+    ) -> Result<T, Problem> {
+        let (word, rest) = self.split();
+        let Some((_, value)) = table.iter().find(|(name, _)| *name == word) else {
+            return Err(self.wrong(expected));
+        };
+        self.rest = rest;
+        Ok(*value)
     }
 }

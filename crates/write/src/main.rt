@@ -3,16 +3,18 @@
 
 use crate::parse::parse;
 use crate::problem::Problem;
-use anyhow::anyhow;
+use anyhow::bail;
 use codec::writer::{WriteError, write};
 use std::io::{Read, Write};
 use std::process::ExitCode;
 use std::{env, fs};
 
+mod command;
 mod draft;
 mod line;
 mod parse;
 mod problem;
+mod word;
 
 const HELP: &str = "write TEXT FILE: makes a file of drawing commands from a text.\n\
     TEXT may be - for standard input, FILE may be - for standard output.\n\
@@ -36,56 +38,38 @@ fn write_file(rt: &HostRuntime, name: &str, bytes: &[u8]) -> anyhow::Result<()> 
     Ok(())
 }
 
-// What is wrong with a list that is out of bounds although its text was read.
-fn reason(error: WriteError) -> &'static str {
-    match error {
-        WriteError::Size => "a size is out of range",
-        WriteError::Textures => "there are more than 64 textures",
-        WriteError::Texture(_) => "a texture is out of range",
-        WriteError::Commands => "there are more than 65535 commands",
-        WriteError::Command(_) => "a command is out of range",
-        WriteError::Memory => "there is not enough memory",
-    }
-}
-
 fn run(rt: &HostRuntime) -> anyhow::Result<()> {
-    let mut args = env::args(rt)?;
-    let _ = args.next();
+    let mut args = env::args(rt)?.skip(1);
     let Some(from) = args.next() else {
-        return Err(anyhow!("no text is named; write --help says how"));
+        bail!("no text is named; write --help says how");
     };
     if from.as_str() == "--help" {
         rt.println(HELP)?;
         return Ok(());
     }
     let Some(to) = args.next() else {
-        return Err(anyhow!("no file is named; write --help says how"));
+        bail!("no file is named; write --help says how");
     };
     let text = read_text(rt, from.as_str())?;
     let draft = match parse(rt.alloc(), text.as_str()) {
         Ok(draft) => draft,
         Err(Problem::Text(error)) => {
-            let line = error.line;
-            let column = error.column;
-            let expected = error.expected;
-            eprintln!(rt; "write: line {line}, column {column}: expected {expected}")?;
-            return Err(anyhow!("nothing was written"));
+            eprintln!(rt; "write: {error}")?;
+            bail!("nothing was written");
         }
-        Err(Problem::Memory) => return Err(anyhow!("there is not enough memory")),
+        Err(Problem::Memory) => return Err(WriteError::Memory.into()),
     };
-    match write(
+    let file = write(
         rt.alloc(),
         draft.size,
         &draft.textures,
         &draft.dots,
         &draft.commands,
-    ) {
-        Ok(bytes) => write_file(rt, to.as_str(), &bytes),
-        Err(error) => Err(anyhow!("{}", reason(error))),
-    }
+    )?;
+    write_file(rt, to.as_str(), &file)
 }
 
-// What went wrong was said, and where no picture was made or no file written the status is 1.
+// Says what went wrong; where no file was written the status is 1.
 fn main(rt: HostRuntime) -> ExitCode {
     match run(&rt) {
         Ok(()) => ExitCode::SUCCESS,

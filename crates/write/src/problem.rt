@@ -1,5 +1,7 @@
 // What can go wrong while a text is read.
 use std::alloc::{AllocError, AllocFailed};
+use std::fmt;
+use std::fmt::Display;
 
 // Where a text goes wrong, lines and columns from 1 on, and what was expected there.
 #[derive(Clone, Copy)]
@@ -7,6 +9,17 @@ pub struct TextError {
     pub line: usize,
     pub column: usize,
     pub expected: &'static str,
+}
+
+impl Display for TextError {
+    fn fmt<W: fmt::Write>(&self, f: &mut fmt::Formatter<W>) -> fmt::Result {
+        let TextError {
+            line,
+            column,
+            expected,
+        } = self;
+        write!(f, "line {line}, column {column}: expected {expected}")
+    }
 }
 
 #[derive(Clone, Copy)]
