@@ -17,9 +17,9 @@ use std::io::Write;
 fn print_picture(rt: &HostRuntime, size: Size, dots: &[u8]) -> anyhow::Result<()> {
     let Size { width, height } = size;
     println!(rt; "picture {width} {height}")?;
-    let mut text = String::new(rt.alloc());
+    let mut text = Vec::new(rt.alloc());
     push_rows(&mut text, size, dots)?;
-    rt.stdout().write_all(text.as_bytes())?;
+    rt.stdout().write_all(&text)?;
     Ok(())
 }
 

@@ -4,6 +4,10 @@ use Rattle.std.proofs.Common.{◌≡◌, ℕ, suc, ◌+◌, ◌/◌, ◌%◌, �
 use Rattle.std.proofs.lemmas.List.{drop_all}
 use Rattle.output.specs.Text.{digit, gap, row_text}
 
+-- two bytes behind a list, one after the other
+pub two : (s t u : List ℕ) (a b : ℕ) → t ≡ s ++ a ∷ [] → u ≡ t ++ b ∷ [] → u ≡ s ++ (a ∷ b ∷ [])
+two s t u a b e f = f ∙ ap (λ (x : List ℕ). x ++ b ∷ []) e ∙ append_assoc s (a ∷ []) (b ∷ [])
+
 -- one more byte of the row
 pub row_more : (row s t u whole : List ℕ) (k : ℕ) → k < length row → t ≡ s ++ gap k → u ≡ t ++ (digit (get_or row k 0 / 16) ∷ digit (get_or row k 0 % 16) ∷ []) →
     s ++ row_text k (drop k row) ≡ whole → u ++ row_text (k + 1) (drop (k + 1) row) ≡ whole

@@ -1,6 +1,6 @@
-use Rattle.std.proofs.Common.{◌≡◌, ◌-◌, ◌++◌, string_bytes}
+use Rattle.std.proofs.Common.{◌≡◌, ◌-◌, ◌++◌, vec_items}
 use Rattle.output.specs.Text.{rows_text}
 use Rattle.output.proofs.push_rows.Given as goal
 
 abbrev pub invariant-loop : goal.invariant-loop
-invariant-loop l = string_bytes l.out ++ rows_text (l.end - l.counter) l.stride l.rest ≡ string_bytes l.initial.out ++ rows_text l.end l.stride l.dots
+invariant-loop l = vec_items l.out ++ rows_text (l.end - l.counter) l.stride l.rest ≡ vec_items l.initial.out ++ rows_text l.end l.stride l.dots
