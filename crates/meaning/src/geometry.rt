@@ -30,6 +30,7 @@ pub fn middle_of(i: u16, j: u16) -> Place
     }
 }
 
+// Kept: an edge is its two ends p and q, here and in all that stands on this; it is named for a call alone, of three corners in turn, and a struct of both would be taken apart at once.
 // Twice the area of p, q and m, above 0 if they go round with the clock.
 pub fn side(p: Place, q: Place, m: Place) -> i128
     ensures value { result ≡ edge p q m }

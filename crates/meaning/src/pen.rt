@@ -161,6 +161,7 @@ pub struct Pen {
     pub test: Test,
     pub keeps: bool,
     pub mix: Mix,
+    // Kept: a number and no Option, as in the file: 0 names none, and the definition looks the number up as it is.
     pub texture: u8,
     pub frame: Frame,
 }
