@@ -4,7 +4,7 @@ ghost use Rattle.meaning.specs.Meaning.{middle, if_covered};
 ghost use Rattle.meaning.specs.Textures.{image_if};
 ghost use Rattle.reference.specs.Boxes.{in_box};
 ghost use Rattle.reference.specs.Changes.{Changes};
-ghost use Rattle.reference.specs.Dots.{OneDot};
+ghost use Rattle.reference.specs.Shows.{PictureRoom};
 ghost use Rattle.coverage.specs.Spots.{spot};
 
 use meaning::brush::Brush;
@@ -38,8 +38,7 @@ pub(crate) fn paint_dot(
     requires place { fragment.place ≡ middle i j }
     requires across { i < size.width }
     requires down { j < size.height }
-    requires colours { (size.height * size.width) * 3 ≤ length colours.old }
-    requires depths { size.height * size.width ≤ length depths.old }
+    requires room { PictureRoom size colours.old depths.old }
     ensures { Changes size.width (in_box i j (i + 1) (j + 1)) (λ i j d. if_covered (image_if brush.entry.texture) brush.entry.pen fragment.triangle.a fragment.triangle.b fragment.triangle.c (middle i j) d) colours.old depths.old colours.new depths.new }
 {
     let place = place_of(size, 0, i, j);

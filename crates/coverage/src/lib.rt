@@ -6,6 +6,7 @@ ghost use Rattle.meaning.specs.Meaning.{middle, in_frame, if_covered};
 ghost use Rattle.meaning.specs.Textures.{image_if};
 ghost use Rattle.setup.specs.Ready.{Sound};
 ghost use Rattle.reference.specs.Changes.{Changes};
+ghost use Rattle.reference.specs.Shows.{PictureRoom};
 
 use crate::dots::paint_dot;
 use crate::outline::Outline;
@@ -30,8 +31,7 @@ pub fn cover(
     requires sound { Sound triangle }
     requires right { frame.right ≤ size.width }
     requires bottom { frame.bottom ≤ size.height }
-    requires colours { (size.height * size.width) * 3 ≤ length colours.old }
-    requires depths { size.height * size.width ≤ length depths.old }
+    requires room { PictureRoom size colours.old depths.old }
     ensures { Changes size.width (in_frame frame) (λ i j d. if_covered (image_if brush.entry.texture) brush.entry.pen triangle.a triangle.b triangle.c (middle i j) d) colours.old depths.old colours.new depths.new }
 {
     let outline = Outline::of(triangle);

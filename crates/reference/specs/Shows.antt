@@ -59,6 +59,11 @@ pub record Through (ts : List Image) (s : Size) (cs : List Instruction) (R : ℕ
   pub depths : Depths s.width R (λ i j. (at i j).dot.depth) D D'
   pub shown : Pictures s.width s.height n R (λ q i j c. slice_index (slice_index_or (were i j) q no_dot).colour c) S S'
 
+-- there is room for a picture
+pub record PictureRoom (s : Size) (C D : List ℕ) : Type 0 where
+  pub colours : (s.height * s.width) * 3 ≤ length C
+  pub depths : s.height * s.width ≤ length D
+
 -- there is room for the picture, and for n pictures that are shown
 pub record Room (s : Size) (n : ℕ) (C D S : List ℕ) : Type 0 where
   pub colours : (s.height * s.width) * 3 ≤ length C

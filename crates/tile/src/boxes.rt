@@ -2,7 +2,7 @@
 ghost use Rattle.std.specs.Prelude.{◌≡◌, ℕ, ◌+◌, ◌*◌, ◌/◌, ◌<◌, ◌≤◌, length, get_or};
 ghost use Rattle.meaning.specs.Meaning.{in_frame};
 ghost use Rattle.reference.specs.Boxes.{Colours, Depths};
-ghost use Rattle.reference.specs.Shows.{OnePicture};
+ghost use Rattle.reference.specs.Shows.{OnePicture, PictureRoom};
 ghost use Rattle.tile.specs.Frames.{Both, Part};
 
 use meaning::pen::Frame;
@@ -42,8 +42,7 @@ fn fill_colours(row: &mut [u8], colour: [u8; 3])
 // The dots of a box become one and the same.
 pub fn clear_box(colours: &mut [u8], depths: &mut [u16], size: Size, frame: Frame, dot: Dot)
     requires inside { frame.bottom ≤ size.height }
-    requires colours { (size.height * size.width) * 3 ≤ length colours.old }
-    requires depths { size.height * size.width ≤ length depths.old }
+    requires room { PictureRoom size colours.old depths.old }
     ensures colours { Colours size.width (in_frame frame) (λ i j c. get_or dot.colour c 0) colours.old colours.new }
     ensures depths { Depths size.width (in_frame frame) (λ i j. dot.depth) depths.old depths.new }
 {
