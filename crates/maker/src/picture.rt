@@ -1,11 +1,9 @@
 // All tiles of the picture.
 ghost use Rattle.std.specs.Prelude.{◌≡◌, ◌+◌, ◌≤◌, min};
-ghost use Rattle.reference.specs.Dots.{RoomFor};
 ghost use Rattle.maker.specs.declared.picture.TheConstants.{TILE};
 ghost use Rattle.maker.specs.Tiles.{Painted};
 
 use crate::tiles::paint_tile;
-use codec::taken::TakenFile;
 use meaning::pen::Frame;
 use reference::canvas::Canvas;
 use reference::entry::Draws;
@@ -21,11 +19,10 @@ fn tile_end(start: u16, edge: u16) -> u16
 }
 
 // A row of tiles.
-fn paint_band(file: TakenFile<'_>, band: Frame, canvas: &mut Canvas<'_>)
+fn paint_band(canvas: &mut Canvas<'_>, band: Frame)
     requires across { band.left ≤ band.right }
-    requires inside { band.bottom ≤ file.summary.size.height }
-    requires room { RoomFor file canvas.old }
-    ensures { Painted file.entry band canvas.old canvas.new }
+    requires inside { band.bottom ≤ canvas.old.file.summary.size.height }
+    ensures { Painted band canvas.old canvas.new }
 {
     for left in (band.left..band.right).step_by(usize::from(TILE)) {
         let tile = Frame {
@@ -33,7 +30,7 @@ fn paint_band(file: TakenFile<'_>, band: Frame, canvas: &mut Canvas<'_>)
             right: tile_end(left, band.right),
             ..band
         };
-        paint_tile(file, tile, canvas);
+        paint_tile(canvas, tile);
     }
 }
 
@@ -41,8 +38,8 @@ fn paint_band(file: TakenFile<'_>, band: Frame, canvas: &mut Canvas<'_>)
 pub(crate) struct TileByTile;
 
 impl Draws for TileByTile {
-    fn draw(file: TakenFile<'_>, canvas: &mut Canvas<'_>) {
-        let size = file.summary.size;
+    fn draw(canvas: &mut Canvas<'_>) {
+        let size = canvas.file.summary.size;
         for top in (0..size.height).step_by(usize::from(TILE)) {
             let band = Frame {
                 left: 0,
@@ -50,7 +47,7 @@ impl Draws for TileByTile {
                 right: size.width,
                 bottom: tile_end(top, size.height),
             };
-            paint_band(file, band, canvas);
+            paint_band(canvas, band);
         }
     }
 }

@@ -2,15 +2,14 @@
 ghost use Rattle.std.specs.Prelude.{◌≡◌, ◌+◌, ◌<◌, ◌≤◌, true};
 ghost use Rattle.meaning.specs.Numbers.{kind_number};
 ghost use Rattle.codec.specs.Kinds.{built_yet};
-ghost use Rattle.codec.specs.Shows.{counts};
-ghost use Rattle.reference.specs.Dots.{RoomOn, RoomFor};
+ghost use Rattle.codec.specs.Shows.{counts, shows};
+ghost use Rattle.codec.specs.Taken.{commands_of};
 ghost use Rattle.maker.specs.Tiles.{Obeyed, Painted};
 
-use codec::taken::TakenFile;
 use meaning::command::Command;
 use meaning::pen::{Frame, Pen};
 use meaning::projection::View;
-use meaning::state::{Dot, Size, State};
+use meaning::state::{Dot, State};
 use reference::canvas::Canvas;
 use tile::boxes::{clear_box, meet, show_box};
 
@@ -22,21 +21,16 @@ pub struct Context {
     pub shown: u16,
 }
 
-// One command on a tile.
-fn obey(
-    command: Command,
-    context: Context,
-    size: Size,
-    tile: Frame,
-    canvas: &mut Canvas<'_>,
-) -> Context
+// One command on a tile. There is room for what it shows, beside what was shown before.
+fn obey(command: Command, context: Context, tile: Frame, canvas: &mut Canvas<'_>) -> Context
     requires kind { built_yet (kind_number command) ≡ true }
-    requires inside { tile.bottom ≤ size.height }
+    requires inside { tile.bottom ≤ canvas.old.file.summary.size.height }
     requires few { context.shown < 65535 }
-    requires room { RoomOn size (context.shown + counts command) canvas.old }
+    requires room { context.shown + counts command ≤ shows (commands_of canvas.old.file) }
     ensures few { result.shown ≤ context.shown + 1 }
-    ensures obeyed { Obeyed command size tile context canvas.old result canvas.new }
+    ensures obeyed { Obeyed command tile context canvas.old result canvas.new }
 {
+    let size = canvas.file.summary.size;
     match command {
         Command::Pen(pen) => Context { pen, ..context },
         Command::Look(view) => Context { view, ..context },
@@ -54,7 +48,6 @@ fn obey(
         // Files with triangles are refused yet.
         Command::Triangles(_) => unreachable(),
         Command::Show => {
-            // The check has no rule for a `&` to one field while another is lent.
             let colours = &mut *canvas.colours;
             show_box(colours, canvas.shown, size, tile, context.shown);
             Context {
@@ -66,11 +59,11 @@ fn obey(
 }
 
 // All commands on a tile, from the beginning.
-pub(crate) fn paint_tile(file: TakenFile<'_>, tile: Frame, canvas: &mut Canvas<'_>)
-    requires inside { tile.bottom ≤ file.summary.size.height }
-    requires room { RoomFor file canvas.old }
-    ensures { Painted file.entry tile canvas.old canvas.new }
+pub(crate) fn paint_tile(canvas: &mut Canvas<'_>, tile: Frame)
+    requires { tile.bottom ≤ canvas.old.file.summary.size.height }
+    ensures { Painted tile canvas.old canvas.new }
 {
+    let file = canvas.file;
     let size = file.summary.size;
     let begin = State::begin(size);
     clear_box(canvas.colours, canvas.depths, size, tile, begin.dot);
@@ -80,6 +73,6 @@ pub(crate) fn paint_tile(file: TakenFile<'_>, tile: Frame, canvas: &mut Canvas<'
         shown: 0,
     };
     for command in file.commands() {
-        context = obey(command, context, size, tile, canvas);
+        context = obey(command, context, tile, canvas);
     }
 }

@@ -5,6 +5,7 @@ use Rattle.std.proofs.lemmas.Bool.{le-ltb, or_from}
 use Rattle.meaning.specs.declared.state.Size.{Size}
 use Rattle.meaning.specs.Meaning.{Image, Instruction, shown}
 use Rattle.codec.specs.declared.refusal.Refusal.{Refusal}
+use Rattle.codec.specs.declared.taken.TakenFile.{TakenFile}
 use Rattle.codec.specs.Judged.{Verdict, taken, judged}
 use Rattle.codec.specs.Kinds.{built_yet}
 use Rattle.codec.specs.Shows.{shows}
@@ -14,7 +15,8 @@ use Rattle.reference.specs.declared.job.Job.{Job}
 use Rattle.reference.specs.Boxes.{in_box}
 use Rattle.reference.specs.declared.canvas.Canvas.{Canvas}
 use Rattle.reference.specs.declared.lengths.Lengths.{Lengths}
-use Rattle.reference.specs.Dots.{RoomFor, Drawn}
+use Rattle.reference.specs.Dots.{Drawn}
+use Rattle.reference.specs.Shows.{Region, Room}
 use Rattle.reference.specs.Whole.{pictures_in}
 use Rattle.reference.specs.Made.{dots, work_for, shown_for, lent, Leaves, Made, MadeIsMeant}
 use Rattle.reference.specs.Admitted.{Ready, Admitted, verdict_over}
@@ -28,26 +30,30 @@ enough s ts cs c d w h hc hd hw hs =
     rw (picture, le-ltb w (work_for s cs) hw, le-ltb h (shown_for s cs) hs)
 
 -- ---- what a call leaves
-module _ (file W : List ℕ) (x : Canvas) (l : Lengths)
-    (colours : l.colours ≡ length x.colours.now) (depths : l.depths ≡ length x.depths.now) (work : l.work ≡ length W) (shown : l.shown ≡ length x.shown.now) where
-  lent_so : verdict_over l file ≡ lent (judged built_yet file) (length x.colours.now) (length x.depths.now) (length W) (length x.shown.now)
+module _ (file C D W S : List ℕ) (l : Lengths) (colours : l.colours ≡ length C) (depths : l.depths ≡ length D) (work : l.work ≡ length W) (shown : l.shown ≡ length S) where
+  lent_so : verdict_over l file ≡ lent (judged built_yet file) (length C) (length D) (length W) (length S)
   lent_so = rw (colours, depths, work, shown)
 
-  pub made_none : (e : Refusal) → Admitted file l (Err e) → Made file x.colours.now x.depths.now W x.shown.now (Err e) x.colours.now x.depths.now W x.shown.now
-  made_none e h =
-      subst (λ (v : Verdict). Leaves v x.colours.now x.depths.now W x.shown.now (Err e) x.colours.now x.depths.now W x.shown.now) (sym h ∙ lent_so) (refl, refl, refl, refl, refl, refl)
+  pub made_none : (e : Refusal) → Admitted file l (Err e) → Made file C D W S (Err e) C D W S
+  made_none e h = subst (λ (v : Verdict). Leaves v C D W S (Err e) C D W S) (sym h ∙ lent_so) (refl, refl, refl, refl, refl, refl)
 
-  pub room_lent : (j : Job) → Ready file l j → RoomFor j.file x
+  pub room_lent : (j : Job) → Ready file l j → Room j.file.summary.size (shows (commands_of j.file)) C D S
   room_lent j r = record { colours = rw (← colours) r.colours; depths = rw (← depths) r.depths; shown = rw (← shown) r.room }
 
-  -- C, D and S are what the slices hold in the end
-  pub made_all : (j : Job) (y : Canvas) (C D S : List ℕ) → Ready file l j → Drawn j.file (in_box 0 0 j.file.summary.size.width j.file.summary.size.height) x y →
-      C ≡ y.colours.now → D ≡ y.depths.now → S ≡ y.shown.now → Made file x.colours.now x.depths.now W x.shown.now (Ok j.shows) C D W S
-  made_all j y C D S r o c d s = rw (c, d, s) (
-      subst (λ (v : Verdict). Leaves v x.colours.now x.depths.now W x.shown.now (Ok j.shows) y.colours.now y.depths.now W y.shown.now) (sym r.verdict ∙ lent_so) (
+  -- x is the canvas of the lent slices, and C', D' and S' are what they hold in the end
+  pub made_all : (j : Job) (x y : Canvas) (C' D' S' : List ℕ) → Ready file l j → x.file ≡ j.file → x.colours.now ≡ C → x.depths.now ≡ D → x.shown.now ≡ S →
+      Drawn (in_box 0 0 x.file.summary.size.width x.file.summary.size.height) x y →
+      C' ≡ y.colours.now → D' ≡ y.depths.now → S' ≡ y.shown.now → Made file C D W S (Ok j.shows) C' D' W S'
+  made_all j x y C' D' S' r f p q s o c d e =
+      let region = λ (ts : List Image).
+      subst (λ (n : TakenFile). Region ts n.summary.size (commands_of n) (in_box 0 0 n.summary.size.width n.summary.size.height) x.colours.now x.depths.now x.shown.now y.colours.now y.depths.now y.shown.now)
+      f (o.meant ts) in
+      rw (c, d, e) (
+      subst (λ (v : Verdict). Leaves v C D W S (Ok j.shows) y.colours.now y.depths.now W y.shown.now) (sym r.verdict ∙ lent_so) (
         r.known.many,
-        whole r.known.images j.file.summary.size (commands_of j.file) x.colours.now x.depths.now x.shown.now y.colours.now y.depths.now y.shown.now
-            r.known.fits (room_lent j r) o.same.colours.long o.same.depths.long o.same.shown.long (o.meant r.known.images),
+        rw (p, q, s) at
+            (whole r.known.images j.file.summary.size (commands_of j.file) x.colours.now x.depths.now x.shown.now y.colours.now y.depths.now y.shown.now
+            r.known.fits (rw (p, q, s) (room_lent j r)) o.same.colours.long o.same.depths.long o.same.shown.long (region r.known.images)),
       ))
 
 -- ---- the pictures that are made are those that the commands mean

@@ -5,7 +5,7 @@ ghost use Rattle.codec.specs.Shows.{shows};
 ghost use Rattle.codec.specs.Taken.{commands_of};
 ghost use Rattle.reference.specs.Boxes.{in_box};
 ghost use Rattle.reference.specs.Shows.{seen_dots, no_dot, Pictures};
-ghost use Rattle.reference.specs.Dots.{RoomFor, Drawn};
+ghost use Rattle.reference.specs.Dots.{Drawn};
 
 use crate::canvas::Canvas;
 use crate::entry::Draws;
@@ -37,25 +37,25 @@ fn obey_all(file: TakenFile<'_>, i: u16, j: u16, shown: &mut [u8]) -> Dot
 }
 
 // Dot (i, j) of every picture.
-fn mean_dot(file: TakenFile<'_>, i: u16, j: u16, canvas: &mut Canvas<'_>)
-    requires room { RoomFor file canvas.old }
-    requires across { i < file.summary.size.width }
-    requires down { j < file.summary.size.height }
-    ensures { Drawn file.entry (in_box i j (i + 1) (j + 1)) canvas.old canvas.new }
+fn mean_dot(canvas: &mut Canvas<'_>, i: u16, j: u16)
+    requires across { i < canvas.old.file.summary.size.width }
+    requires down { j < canvas.old.file.summary.size.height }
+    ensures { Drawn (in_box i j (i + 1) (j + 1)) canvas.old canvas.new }
 {
+    let file = canvas.file;
     let dot = obey_all(file, i, j, canvas.shown);
     let place = place_of(file.summary.size, 0, i, j);
     put_dot(canvas.colours, canvas.depths, place, dot);
 }
 
 // Row j of every picture.
-fn mean_row(file: TakenFile<'_>, j: u16, canvas: &mut Canvas<'_>)
-    requires room { RoomFor file canvas.old }
-    requires down { j < file.summary.size.height }
-    ensures { Drawn file.entry (in_box 0 j file.entry.summary.size.width (j + 1)) canvas.old canvas.new }
+fn mean_row(canvas: &mut Canvas<'_>, j: u16)
+    requires { j < canvas.old.file.summary.size.height }
+    ensures { Drawn (in_box 0 j canvas.old.file.summary.size.width (j + 1)) canvas.old canvas.new }
 {
-    for i in 0..file.summary.size.width {
-        mean_dot(file, i, j, canvas);
+    let width = canvas.file.summary.size.width;
+    for i in 0..width {
+        mean_dot(canvas, i, j);
     }
 }
 
@@ -63,9 +63,10 @@ fn mean_row(file: TakenFile<'_>, j: u16, canvas: &mut Canvas<'_>)
 pub(crate) struct DotByDot;
 
 impl Draws for DotByDot {
-    fn draw(file: TakenFile<'_>, canvas: &mut Canvas<'_>) {
-        for j in 0..file.summary.size.height {
-            mean_row(file, j, canvas);
+    fn draw(canvas: &mut Canvas<'_>) {
+        let height = canvas.file.summary.size.height;
+        for j in 0..height {
+            mean_row(canvas, j);
         }
     }
 }

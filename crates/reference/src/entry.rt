@@ -1,19 +1,17 @@
 // How pictures are made in lent memory, whoever draws them.
 ghost use Rattle.reference.specs.Boxes.{in_box};
-ghost use Rattle.reference.specs.Dots.{RoomFor, Drawn};
+ghost use Rattle.reference.specs.Dots.{Drawn};
 ghost use Rattle.reference.specs.Made.{Made, SamePictures};
 
 use crate::canvas::Canvas;
 use crate::job::admit;
 use crate::lengths::Lengths;
 use codec::refusal::Refusal;
-use codec::taken::TakenFile;
 
 pub trait Draws {
-    // All commands of a file, for every dot of the picture.
-    fn draw(file: TakenFile<'_>, canvas: &mut Canvas<'_>)
-        requires { RoomFor file canvas.old }
-        ensures { Drawn file.entry (in_box 0 0 file.entry.summary.size.width file.entry.summary.size.height) canvas.old canvas.new };
+    // All commands of the file, for every dot of the picture.
+    fn draw(canvas: &mut Canvas<'_>)
+        ensures { Drawn (in_box 0 0 canvas.old.file.summary.size.width canvas.old.file.summary.size.height) canvas.old canvas.new };
 }
 
 // The pictures of a file: how many are shown, or why the file is refused. Who draws needs no more than the picture and what is shown; the length of `work` is
@@ -30,10 +28,11 @@ pub fn pictures<D: Draws>(
 {
     let job = admit(file, Lengths::of(colours, depths, work, shown))?;
     let mut canvas = Canvas {
+        file: job.file,
         colours,
         depths,
         shown,
     };
-    D::draw(job.file, &mut canvas);
+    D::draw(&mut canvas);
     Ok(job.shows)
 }

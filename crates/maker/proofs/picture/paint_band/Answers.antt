@@ -10,7 +10,10 @@ loop-left-preserved c =
     let p = c.paint_tile.new.canvas in
     let e : min o.left b.right ≡ o.left = omega arith in
     let n : c.tile_end.result ≡ min (o.left + c.from-left-step.result) b.right = omega (arith, c.tile_end.ensures, c.from-left-step.ensures) in
-    (omega arith, rw (← n) (tile_more a.file b.left b.top c.tile_end.result b.bottom a.canvas.now o.canvas p o.left (omega arith) (omega (arith, c.tile_end.ensures)) (rw e at o.invariant.1) c.paint_tile.ensures))
+    (omega arith, rw (← n) (tile_more b.left b.top c.tile_end.result b.bottom a.canvas.now o.canvas p o.left (omega arith) (omega (arith, c.tile_end.ensures)) (rw e at o.invariant.1) c.paint_tile.ensures))
+
+pub paint_tile-requires : goal.paint_tile-requires
+paint_tile-requires c = rw c.loop-left.invariant.1.same.file c.requires.inside
 
 pub returns : goal.returns
 returns c =
@@ -24,4 +27,4 @@ returns-2 c =
     let p = c.paint_tile.new.canvas in
     let e : min o.left b.right ≡ o.left = omega arith in
     let n : c.tile_end.result ≡ b.right = omega (arith, c.tile_end.ensures, c.from-left-step.ensures) in
-    rw (← n) (tile_more a.file b.left b.top c.tile_end.result b.bottom a.canvas.now o.canvas p o.left (omega arith) (omega (arith, c.tile_end.ensures)) (rw e at o.invariant.1) c.paint_tile.ensures)
+    rw (← n) (tile_more b.left b.top c.tile_end.result b.bottom a.canvas.now o.canvas p o.left (omega arith) (omega (arith, c.tile_end.ensures)) (rw e at o.invariant.1) c.paint_tile.ensures)

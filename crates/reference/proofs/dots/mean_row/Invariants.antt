@@ -5,4 +5,4 @@ use Rattle.reference.proofs.dots.mean_row.Given as goal
 
 abbrev pub invariant-loop-i : goal.invariant-loop-i
 invariant-loop-i l =
-    Drawn l.file (in_box 0 l.j l.i (l.j + 1)) l.initial.canvas l.canvas
+    Drawn (in_box 0 l.j l.i (l.j + 1)) l.initial.canvas l.canvas
