@@ -1,6 +1,6 @@
 -- What each command leaves of a region.
 -- Assumes nothing.
-use Rattle.std.proofs.Common.{◌≡◌, ℕ, ◌+◌, ◌*◌, ◌<◌, ◌≤◌, Bool, true, false, cond, ◌&&◌, ltb, List, [], ◌∷◌, ◌++◌, length, get_or, sym, refl, ap, ◌∙◌, inl, inr, append_assoc, append-nil, mul-le-mul_right, arith}
+use Rattle.std.proofs.Common.{◌≡◌, ℕ, ◌+◌, ◌*◌, ◌<◌, Bool, true, false, cond, ◌&&◌, ltb, List, [], ◌∷◌, ◌++◌, length, get_or, sym, refl, ap, ◌∙◌, inl, inr, append_assoc, append-nil, arith}
 use Rattle.std.proofs.lemmas.List.{get_or_append_left, get_or_push, length_push}
 use Rattle.std.proofs.lemmas.Bool.{cases_order, le-ltb, lt-ltb, eq-eqb, ne_eqb}
 use Rattle.meaning.specs.declared.pen.Pen.{Pen}
@@ -12,7 +12,7 @@ use Rattle.meaning.specs.Meaning.{Image, Instruction, pen, clear, show, in_frame
 use Rattle.meaning.specs.Numbers.{header}
 use Rattle.codec.specs.Shows.{counts, total, shows}
 use Rattle.reference.specs.Boxes.{Colours, Depths}
-use Rattle.reference.specs.Shows.{at_show, seen_dots, no_dot, OnePicture, Region, Through, Room}
+use Rattle.reference.specs.Shows.{at_show, seen_dots, no_dot, OnePicture, Region, Through}
 use Rattle.reference.proofs.Threes.{Three, three_cond}
 
 -- a dot that is cleared in a region and a frame, of which g takes a part
@@ -146,9 +146,3 @@ module _ (ts : List Image) (s : Size) (cs : List Instruction) (R : ℕ → ℕ �
             depths = o.depths;
             shown = then_all;
           }
-
--- room for fewer pictures
-pub room_for : (s : Size) (n k : ℕ) (C D S C' D' S' : List ℕ) → n ≤ k → length C' ≡ length C → length D' ≡ length D → length S' ≡ length S → Room s k C D S → Room s n C' D' S'
-room_for s n k C D S C' D' S' nk c d e o =
-    let f = mul-le-mul_right s.width (mul-le-mul_right s.height nk) in
-    record { colours = omega arith; depths = omega arith; shown = omega arith }

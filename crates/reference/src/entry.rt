@@ -14,6 +14,7 @@ pub trait Draws {
         ensures { Drawn (in_box 0 0 canvas.old.file.summary.size.width canvas.old.file.summary.size.height) canvas.old canvas.new };
 }
 
+// Kept: four slices, in every entry and every painter. They are what a caller lends, and each is refused by a number of its own.
 // The pictures of a file: how many are shown, or why the file is refused. Who draws needs no more than the picture and what is shown; the length of `work` is
 // judged all the same.
 pub fn pictures<D: Draws>(

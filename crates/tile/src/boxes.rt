@@ -39,6 +39,7 @@ fn fill_colours(row: &mut [u8], colour: [u8; 3])
     }
 }
 
+// Kept: slices and no canvas, here and in `coverage`. A canvas would ask more of callers: a file that was taken, and memory for all that it shows.
 // The dots of a box become one and the same.
 pub fn clear_box(colours: &mut [u8], depths: &mut [u16], size: Size, frame: Frame, dot: Dot)
     requires inside { frame.bottom ≤ size.height }
