@@ -60,7 +60,7 @@ pub fn print_pictures<P: Painter>(
         bail!("there is not enough memory for the pictures");
     };
     let _ = memory.paint(painter, file).unwrap();
-    let size = needs.job.file.summary.size;
+    let size = needs.summary.size;
     for (k, dots) in memory.shown.chunks(needs.lengths.colours).enumerate() {
         print_picture(rt, size, dots)?;
         if let Some(name) = ppm {

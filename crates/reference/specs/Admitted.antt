@@ -8,7 +8,9 @@ use Rattle.codec.specs.Judged.{Verdict, refused, taken, judged}
 use Rattle.codec.specs.Kinds.{built_yet}
 use Rattle.codec.specs.Shows.{shows}
 use Rattle.codec.specs.Taken.{commands_of}
+use Rattle.codec.specs.Walk.{There, listed}
 use Rattle.reference.specs.declared.job.Job.{Job}
+use Rattle.reference.specs.declared.job.Estimate.{Estimate}
 use Rattle.reference.specs.declared.job.Needs.{Needs}
 use Rattle.reference.specs.declared.lengths.Lengths.{Lengths}
 use Rattle.reference.specs.Made.{dots, work_for, shown_for, lent}
@@ -22,12 +24,28 @@ pub record Known (file : List ℕ) (j : Job) : Type 0 where
   pub many : j.shows ≡ shows (commands_of j.file)
 
 -- these are the lengths that its commands need
+pub record Estimated (file : List ℕ) (e : Estimate) : Type 0 where
+  pub known : Known file e.job
+  pub colours : e.lengths.colours ≡ dots e.job.file.summary.size * 3
+  pub depths : e.lengths.depths ≡ dots e.job.file.summary.size
+  pub work : e.lengths.work ≡ work_for e.job.file.summary.size (commands_of e.job.file)
+  pub shown : e.lengths.shown ≡ shown_for e.job.file.summary.size (commands_of e.job.file)
+
+abbrev pub EstimateIs : List ℕ → Result Estimate Refusal → Type 0
+EstimateIs file (Ok e) = Estimated file e
+EstimateIs file (Err e) = judged built_yet file ≡ refused (refusal_number e) (refusal_place e)
+
+-- the file is taken, its commands can be read again, they are in bounds, and these are the lengths that they need
 pub record Sized (file : List ℕ) (n : Needs) : Type 0 where
-  pub known : Known file n.job
-  pub colours : n.lengths.colours ≡ dots n.job.file.summary.size * 3
-  pub depths : n.lengths.depths ≡ dots n.job.file.summary.size
-  pub work : n.lengths.work ≡ work_for n.job.file.summary.size (commands_of n.job.file)
-  pub shown : n.lengths.shown ≡ shown_for n.job.file.summary.size (commands_of n.job.file)
+  pub images : List Image
+  pub verdict : judged built_yet file ≡ taken n.summary.size images (listed file n.summary)
+  pub there : There file n.summary
+  pub fits : ListFits n.summary.size images (listed file n.summary)
+  pub many : n.shows ≡ shows (listed file n.summary)
+  pub colours : n.lengths.colours ≡ dots n.summary.size * 3
+  pub depths : n.lengths.depths ≡ dots n.summary.size
+  pub work : n.lengths.work ≡ work_for n.summary.size (listed file n.summary)
+  pub shown : n.lengths.shown ≡ shown_for n.summary.size (listed file n.summary)
 
 abbrev pub Measured : List ℕ → Result Needs Refusal → Type 0
 Measured file (Ok n) = Sized file n

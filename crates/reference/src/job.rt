@@ -1,9 +1,10 @@
 // What there is to do: a file that is taken, and enough memory lent for it.
-ghost use Rattle.reference.specs.Admitted.{Measured, Admitted};
+ghost use Rattle.reference.specs.Admitted.{EstimateIs, Measured, Admitted};
 
 use crate::lengths::Lengths;
 use codec::judge::take;
 use codec::refusal::{Lent, Refusal};
+use codec::summary::Summary;
 use codec::taken::TakenFile;
 
 // A file, and how many pictures it shows.
@@ -15,20 +16,27 @@ pub struct Job<'a> {
 
 // A job, and how much memory has to be lent for it.
 #[derive(Clone, Copy)]
-pub struct Needs<'a> {
-    pub job: Job<'a>,
+struct Estimate<'a> {
+    job: Job<'a>,
+    lengths: Lengths,
+}
+
+// What a file has, how many pictures it shows, and how much memory has to be lent for them.
+#[derive(Clone, Copy)]
+pub struct Needs {
+    pub summary: Summary,
+    pub shows: usize,
     pub lengths: Lengths,
 }
 
-// Judges a file and says what it needs.
-pub fn measure(file: &[u8]) -> Result<Needs<'_>, Refusal>
-    ensures { Measured file.now result }
+fn assess(file: &[u8]) -> Result<Estimate<'_>, Refusal>
+    ensures { EstimateIs file.now result }
 {
     let file = take(file)?;
     let width = usize::from(file.summary.size.width);
     let height = usize::from(file.summary.size.height);
     let counts = file.counts();
-    Ok(Needs {
+    Ok(Estimate {
         job: Job {
             file,
             shows: counts.shows,
@@ -42,19 +50,31 @@ pub fn measure(file: &[u8]) -> Result<Needs<'_>, Refusal>
     })
 }
 
+// Judges a file and says what it needs.
+pub fn measure(file: &[u8]) -> Result<Needs, Refusal>
+    ensures { Measured file.now result }
+{
+    let Estimate { job, lengths } = assess(file)?;
+    Ok(Needs {
+        summary: job.file.summary,
+        shows: job.shows,
+        lengths,
+    })
+}
+
 // Judges the file and then the lengths of the lent memory, in the order picture, work, shown.
 pub fn admit(file: &[u8], lent: Lengths) -> Result<Job<'_>, Refusal>
     ensures { Admitted file.now lent result }
 {
-    let needs = measure(file)?;
-    if lent.colours < needs.lengths.colours || lent.depths < needs.lengths.depths {
+    let Estimate { job, lengths } = assess(file)?;
+    if lent.colours < lengths.colours || lent.depths < lengths.depths {
         return Err(Refusal::Memory(Lent::Picture));
     }
-    if lent.work < needs.lengths.work {
+    if lent.work < lengths.work {
         return Err(Refusal::Memory(Lent::Work));
     }
-    if lent.shown < needs.lengths.shown {
+    if lent.shown < lengths.shown {
         return Err(Refusal::Memory(Lent::Shown));
     }
-    Ok(needs.job)
+    Ok(job)
 }

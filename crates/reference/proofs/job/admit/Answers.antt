@@ -7,9 +7,9 @@ use Rattle.reference.proofs.job.admit.Goals as goal
 
 pub returns : goal.returns
 returns c =
-    let h = c.in_ok-needs.ensures in
+    let h = c.in_ok-job.ensures in
     let l = c.args.lent in
-    let f = c.in_ok-needs.needs.job.file in
+    let f = c.in_ok-job.field-0.job.file in
     record {
       known = h.known;
       verdict =

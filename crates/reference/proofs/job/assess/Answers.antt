@@ -1,0 +1,43 @@
+use Rattle.std.proofs.Common.{◌≡◌, ℕ, ◌<◌, List, Ok, get_or, sym, ap, ◌∙◌}
+use Rattle.meaning.specs.Fits.{ListFits}
+use Rattle.codec.specs.declared.taken.TakenFile.{TakenFile}
+use Rattle.codec.specs.Judged.{judged, taken}
+use Rattle.codec.specs.Kinds.{built_yet}
+use Rattle.codec.specs.Walk.{listed}
+use Rattle.codec.specs.Taken.{commands_of, TakenIs}
+use Rattle.codec.proofs.Files.{written_so}
+use Rattle.codec.proofs.Walks.{same_list}
+use Rattle.reference.proofs.job.assess.Goals as goal
+
+module _ (file : List ℕ) (t : TakenFile) (h : TakenIs file (Ok t)) where
+  -- the file's verdict, by the list that is read again
+  verdict : judged built_yet file ≡ taken t.summary.size h.1.0 (commands_of t)
+  verdict =
+      let e : commands_of t ≡ listed file t.summary = ap (λ (b : List ℕ). listed b t.summary) h.0 in
+      h.1.2 ∙ ap (taken t.summary.size h.1.0) (sym (e ∙ same_list file t.summary (judged built_yet file) h.1))
+
+  -- a file that is taken is in bounds
+  bounds : ((k : ℕ) → get_or file k 0 < 256) → ListFits t.summary.size h.1.0 (commands_of t)
+  bounds below = (written_so built_yet file t.summary.size h.1.0 (commands_of t) below verdict).0
+
+pub returns : goal.returns
+returns c =
+    let t = c.in_ok-file.file in
+    let h = c.in_ok-file.ensures in
+    let eh = c.from-height.ensures in
+    let ew = c.from-width.ensures in
+    let en = c.counts-counts.ensures.shows in
+    let et = c.counts-counts.ensures.triangles in
+    record {
+      known = record {
+        images = h.1.0;
+        same = h.0;
+        verdict = verdict c.args.file.now t h;
+        fits = bounds c.args.file.now t h (λ k. (c.type_inv.file k).fits);
+        many = en;
+      };
+      colours = cc;
+      depths = cc;
+      work = cc;
+      shown = cc;
+    }
