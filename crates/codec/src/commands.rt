@@ -20,7 +20,7 @@ impl Reader<'_> {
         Ok(Command::Clear { colour, depth })
     }
 
-    // Kept: size and textures as two parameters. They part at once, in `pen`, one for the frame and one for the texture; a struct of both would be made for the call alone.
+    // Kept: size and textures as two parameters. The definitions take them apart, the frame is judged by one and the texture by the other, and a struct of both would stand between a `Summary`, which has more, and a pen, which parts them.
     // One command, for a picture of this size and a file with so many textures.
     pub fn command(&mut self, size: Size, textures: u8) -> Result<Command, Refusal>
         ensures { ReadsSome Headed (a_command built_yet size textures) self.old result self.new }

@@ -61,13 +61,15 @@ pub fn judge(file: &[u8]) -> Result<Summary, Refusal>
     reader.file()
 }
 
-// Judges a file, and gives it as one that is taken.
-pub fn take(file: &[u8]) -> Result<TakenFile<'_>, Refusal>
-    ensures { TakenIs file.now result }
-{
-    let summary = judge(file)?;
-    Ok(TakenFile {
-        bytes: file,
-        summary,
-    })
+impl<'a> TakenFile<'a> {
+    // Judges a file, and gives it as one that is taken.
+    pub fn judge(file: &'a [u8]) -> Result<TakenFile<'a>, Refusal>
+        ensures { TakenIs file.now result }
+    {
+        let summary = judge(file)?;
+        Ok(TakenFile {
+            bytes: file,
+            summary,
+        })
+    }
 }

@@ -75,7 +75,7 @@ fn push_file(
     Ok(())
 }
 
-// Kept: the parts of a list as parameters. Callers have them apart, and judging takes only the length of `dots`; a struct of four references would be made for the call alone.
+// Kept: the parts of a list as parameters. Only this function and `push_file` take all four, judging takes the length of `dots` alone; a struct of them would serve one call.
 // The file of a list of commands, or why there is none. The dots of the textures are parts of `dots`.
 pub fn write(
     heap: Global,

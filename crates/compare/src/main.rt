@@ -1,4 +1,4 @@
-// Makes random files with a fixed seed, has their pictures made tile by tile and dot by dot, and compares every lent slice.
+// Makes random files with a fixed seed, has their pictures made tile by tile and dot by dot, and compares what both leave of the picture and of what is shown.
 #![tactic(auto)]
 
 use crate::random::Random;

@@ -41,6 +41,7 @@ fn write_ppm(
 
 // Has the pictures of a file made and prints them, or why it is refused; says whether it was taken.
 // With a name for them the pictures are also written to files.
+// Kept: a bool, since it answers one question, and the contract says which.
 pub fn print_pictures<P: Painter>(
     rt: &HostRuntime,
     painter: &P,

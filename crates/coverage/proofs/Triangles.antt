@@ -10,14 +10,14 @@ use Rattle.meaning.specs.Meaning.{Image, edge, inside, covers, middle, if_covere
 use Rattle.meaning.specs.Fits.{PlaceFits}
 use Rattle.meaning.specs.declared.triangle.Triangle.{Triangle}
 use Rattle.coverage.specs.declared.outline.Outline.{Outline}
-use Rattle.coverage.specs.declared.sides.Sides.{Sides}
+use Rattle.coverage.specs.declared.per_edge.PerEdge.{PerEdge}
 use Rattle.coverage.specs.Steps.{across_gain, down_gain, least_side, past_one, Steps}
 use Rattle.coverage.specs.Walks.{SeenFrom, Fit, plus, within, past}
 use Rattle.coverage.proofs.OneEdge.{edge_across, edge_down, edge_fits, inside_is, outside_on}
 
 module _ (o : Outline) where
   -- what is seen from a dot fits
-  pub seen_fit : (i j : ℕ) (s : Sides) → i ≤ 65536 → j ≤ 65536 → SeenFrom o.triangle (middle i j) s → Fit s
+  pub seen_fit : (i j : ℕ) (s : PerEdge) → i ≤ 65536 → j ≤ 65536 → SeenFrom o.triangle (middle i j) s → Fit s
   seen_fit i j s hi hj x =
       record {
         ab = small t.a.at t.b.at s.ab o.sound.placed.a o.sound.placed.b x.ab;
@@ -31,7 +31,7 @@ module _ (o : Outline) where
       small : (p q : Place) (z : ℤ) → PlaceFits p → PlaceFits q → z ≡ edge p q (middle i j) → mag z < 2 ^ 63
       small p q z fp fq e = let h = edge_fits p q fp fq i j hi hj in rw e (omega arith)
 
-  pub seen_across : (i j : ℕ) (s : Sides) → SeenFrom o.triangle (middle i j) s → SeenFrom o.triangle (middle (i + 1) j) (plus s o.across)
+  pub seen_across : (i j : ℕ) (s : PerEdge) → SeenFrom o.triangle (middle i j) s → SeenFrom o.triangle (middle (i + 1) j) (plus s o.across)
   seen_across i j s x =
       let t = o.triangle in
       let k = o.gains in
@@ -44,7 +44,7 @@ module _ (o : Outline) where
       step : (p q : Place) (d : ℤ) → d ≡ across_gain p q → (z : ℤ) → z ≡ edge p q (middle i j) → z +ℤ d ≡ edge p q (middle (i + 1) j)
       step p q d h z y = (λ n. y n +ℤ h n) ∙ sym (edge_across p q i j)
 
-  pub seen_down : (i j : ℕ) (s : Sides) → SeenFrom o.triangle (middle i j) s → SeenFrom o.triangle (middle i (j + 1)) (plus s o.down)
+  pub seen_down : (i j : ℕ) (s : PerEdge) → SeenFrom o.triangle (middle i j) s → SeenFrom o.triangle (middle i (j + 1)) (plus s o.down)
   seen_down i j s x =
       let t = o.triangle in
       let k = o.gains in
@@ -57,7 +57,7 @@ module _ (o : Outline) where
       step : (p q : Place) (d : ℤ) → d ≡ down_gain p q → (z : ℤ) → z ≡ edge p q (middle i j) → z +ℤ d ≡ edge p q (middle i (j + 1))
       step p q d h z y = (λ n. y n +ℤ h n) ∙ sym (edge_down p q i j)
 
-  pub covers_is : (m : Place) (s : Sides) → SeenFrom o.triangle m s → covers o.triangle.a o.triangle.b o.triangle.c m ≡ within o.least s
+  pub covers_is : (m : Place) (s : PerEdge) → SeenFrom o.triangle m s → covers o.triangle.a o.triangle.b o.triangle.c m ≡ within o.least s
   unfolding covers
   covers_is m s x =
       let t = o.triangle in
@@ -70,7 +70,7 @@ module _ (o : Outline) where
       one p q l h z y = rw (y, h) (inside_is p q m)
 
   -- nothing more is covered in the row
-  pub past_all : (i j : ℕ) (s : Sides) → SeenFrom o.triangle (middle i j) s → past o.across o.least s ≡ true → (a : ℕ) → i ≤ a → covers o.triangle.a o.triangle.b o.triangle.c (middle a j) ≡ false
+  pub past_all : (i j : ℕ) (s : PerEdge) → SeenFrom o.triangle (middle i j) s → past o.across o.least s ≡ true → (a : ℕ) → i ≤ a → covers o.triangle.a o.triangle.b o.triangle.c (middle a j) ≡ false
   unfolding covers
   past_all i j s x h a ia =
       let t = o.triangle in

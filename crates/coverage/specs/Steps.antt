@@ -4,7 +4,7 @@ use Rattle.std.specs.Prelude.{◌≡◌, Bool, cond, ◌&&◌, ℤ, pos, ◌-ℤ
 use Rattle.meaning.specs.declared.geometry.Place.{Place}
 use Rattle.meaning.specs.Meaning.{owns}
 use Rattle.meaning.specs.declared.triangle.Triangle.{Triangle}
-use Rattle.coverage.specs.declared.sides.Sides.{Sides}
+use Rattle.coverage.specs.declared.per_edge.PerEdge.{PerEdge}
 
 -- what the side of a dot's middle for the edge from p to q gains at the next dot of the row, and at the dot below
 abbrev pub across_gain : Place → Place → ℤ
@@ -28,7 +28,7 @@ pub record Steps (p q : Place) (across down least : ℤ) : Type 0 where
   pub least_is : least ≡ least_side p q
 
 -- those of a triangle's edges
-pub record Gains (t : Triangle) (across down least : Sides) : Type 0 where
+pub record Gains (t : Triangle) (across down least : PerEdge) : Type 0 where
   pub ab : Steps t.a.at t.b.at across.ab down.ab least.ab
   pub bc : Steps t.b.at t.c.at across.bc down.bc least.bc
   pub ca : Steps t.c.at t.a.at across.ca down.ca least.ca

@@ -1,5 +1,5 @@
 // Dots of a picture that lies by rows in lent slices, read and written one at a time.
-ghost use Rattle.std.specs.Prelude.{◌≡◌, ◌+◌, ◌*◌, ◌<◌, ◌≤◌, length, slice_set};
+ghost use Rattle.std.specs.Prelude.{◌≡◌, ◌+◌, ◌*◌, ◌<◌, ◌≤◌, length};
 ghost use Rattle.meaning.specs.Meaning.{middle, if_covered};
 ghost use Rattle.meaning.specs.Textures.{image_if};
 ghost use Rattle.reference.specs.Boxes.{in_box};

@@ -1,7 +1,7 @@
 // A triangle painted over a box of dots: which dots it covers is told by sums alone.
 #![tactic(auto)]
 
-ghost use Rattle.std.specs.Prelude.{◌*◌, ◌≤◌, length};
+ghost use Rattle.std.specs.Prelude.{◌≤◌};
 ghost use Rattle.meaning.specs.Meaning.{middle, in_frame, if_covered};
 ghost use Rattle.meaning.specs.Textures.{image_if};
 ghost use Rattle.setup.specs.Ready.{Sound};
@@ -17,7 +17,7 @@ use meaning::triangle::Triangle;
 
 mod dots;
 mod outline;
-mod sides;
+mod per_edge;
 
 // The dots of the frame that the triangle covers are painted, and no others.
 pub fn cover(

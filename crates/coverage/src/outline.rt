@@ -8,7 +8,7 @@ ghost use Rattle.setup.specs.Ready.{Sound};
 ghost use Rattle.coverage.specs.Steps.{across_gain, down_gain, least_side, past_one, Gains};
 ghost use Rattle.coverage.specs.Walks.{SeenFrom, within, past};
 
-use crate::sides::Sides;
+use crate::per_edge::PerEdge;
 use fixed_point::difference;
 use meaning::fragment::Fragment;
 use meaning::geometry::{Place, is_owner, middle_of, side};
@@ -21,9 +21,9 @@ use meaning::weights::Weights;
 pub(crate) struct Outline {
     pub triangle: Triangle,
     pub area: u128,
-    pub across: Sides,
-    pub down: Sides,
-    pub least: Sides,
+    pub across: PerEdge,
+    pub down: PerEdge,
+    pub least: PerEdge,
     ghost sound: { Sound triangle },
     ghost whole: { area ≡ mag (turns triangle.a triangle.b triangle.c) },
     ghost gains: { Gains triangle across down least },
@@ -80,21 +80,21 @@ impl Outline {
         Outline {
             triangle,
             area: triangle.turn().unsigned_abs(),
-            across: Sides::of(triangle, across),
-            down: Sides::of(triangle, down),
-            least: Sides::of(triangle, least),
+            across: PerEdge::of(triangle, across),
+            down: PerEdge::of(triangle, down),
+            least: PerEdge::of(triangle, least),
         }
     }
 
     // The sides of dot (i, j).
-    pub(crate) fn sides_at(self, i: u16, j: u16) -> Sides
+    pub(crate) fn sides_at(self, i: u16, j: u16) -> PerEdge
         ensures { SeenFrom self.triangle (middle i j) result }
     {
-        Sides::of(self.triangle, |p, q| side_at(p, q, i, j))
+        PerEdge::of(self.triangle, |p, q| side_at(p, q, i, j))
     }
 
     // Whether the dot with these sides is covered.
-    pub(crate) fn holds(self, sides: Sides) -> bool
+    pub(crate) fn holds(self, sides: PerEdge) -> bool
         ensures { result ≡ within self.least sides }
     {
         is_inside(sides.ab, self.least.ab)
@@ -103,7 +103,7 @@ impl Outline {
     }
 
     // Whether it is not covered, nor any that follows in its row.
-    pub(crate) fn is_passed(self, sides: Sides) -> bool
+    pub(crate) fn is_passed(self, sides: PerEdge) -> bool
         ensures { result ≡ past self.across self.least sides }
     {
         is_past(sides.ab, self.across.ab, self.least.ab)
@@ -112,7 +112,7 @@ impl Outline {
     }
 
     // Dot (i, j) of those that are covered: its sides are the weights of the corners opposite.
-    pub(crate) fn fragment(self, sides: Sides, i: u16, j: u16) -> Fragment
+    pub(crate) fn fragment(self, sides: PerEdge, i: u16, j: u16) -> Fragment
         requires seen { SeenFrom self.triangle (middle i j) sides }
         requires covered { covers self.triangle.a self.triangle.b self.triangle.c (middle i j) ≡ true }
         ensures { Of self.triangle (middle i j) result }

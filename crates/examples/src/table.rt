@@ -4,7 +4,7 @@ use meaning::geometry::Place;
 use meaning::pen::{Frame, Mix, Pen, Test};
 use meaning::points::Corner;
 use meaning::projection::{Row, View};
-use meaning::state::Size;
+use meaning::state::{Size, State};
 use meaning::texture::Texture;
 
 // A command, or one of the triangles behind it.
@@ -70,19 +70,7 @@ fn half(colour: [u8; 4]) -> [Corner; 3] {
 
 // What is painted with unless a pen is given: always, no depth kept, replaced, the whole picture.
 fn whole_pen(size: Size) -> Pen {
-    let frame = Frame {
-        left: 0,
-        top: 0,
-        right: size.width,
-        bottom: size.height,
-    };
-    Pen {
-        test: Test::Always,
-        keeps: false,
-        mix: Mix::Replace,
-        texture: 0,
-        frame,
-    }
+    State::begin(size).pen
 }
 
 // One triangle; the dots on its slanted edge are not its own.

@@ -2,8 +2,8 @@
 use Rattle.std.specs.Prelude.{◌≡◌, ℕ, Bool, true, false, ◌&&◌, nat_le, Result, MatchResult}
 use Rattle.meaning.specs.declared.code.UnknownCode.{UnknownCode}
 
-abbrev pub from_to : ℕ → ℕ → ℕ → Bool
-from_to least most n = nat_le least n && nat_le n most
+abbrev pub code_between : ℕ → ℕ → ℕ → Bool
+code_between least most n = nat_le least n && nat_le n most
 
 -- what has the code, or the number itself where it is no code
 abbrev pub Decodes : {A : Type 0} → (A → ℕ) → (ℕ → Bool) → (ℕ → A) → ℕ → Result A UnknownCode → Type 0

@@ -1,6 +1,6 @@
 // The kinds of commands.
 ghost use Rattle.std.specs.Prelude.{◌≡◌};
-ghost use Rattle.meaning.specs.Codes.{Decodes, from_to};
+ghost use Rattle.meaning.specs.Codes.{Decodes, code_between};
 ghost use Rattle.meaning.specs.Numbers.{kind_code, kind_of_code};
 
 use crate::code::{Coded, UnknownCode};
@@ -31,7 +31,7 @@ impl From<Kind> for u8 {
 impl TryFrom<u8> for Kind {
     type Error = UnknownCode;
 
-    ghost try_from_gives = { Decodes kind_code (from_to 1 5) kind_of_code };
+    ghost try_from_gives = { Decodes kind_code (code_between 1 5) kind_of_code };
 
     fn try_from(code: u8) -> Result<Kind, UnknownCode> {
         match code {
@@ -48,7 +48,7 @@ impl TryFrom<u8> for Kind {
 impl Coded for Kind {
     ghost code = { kind_code };
 
-    ghost is_code = { from_to 1 5 };
+    ghost is_code = { code_between 1 5 };
 
     ghost coded = { kind_of_code };
 

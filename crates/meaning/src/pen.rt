@@ -1,7 +1,7 @@
 // How dots are painted: which depths pass, how colours mix, and which dots may change.
-ghost use Rattle.std.specs.Prelude.{◌≡◌, ◌<◌, ◌≤◌};
+ghost use Rattle.std.specs.Prelude.{◌≡◌};
 ghost use Rattle.meaning.specs.Meaning.{passes, mixed, in_frame};
-ghost use Rattle.meaning.specs.Codes.{Decodes, from_to};
+ghost use Rattle.meaning.specs.Codes.{Decodes, code_between};
 ghost use Rattle.meaning.specs.Numbers.{test_number, test_of, mix_number, mix_of};
 ghost use Rattle.meaning.specs.declared.pen.Mix.TheVariants.{Blend};
 
@@ -34,7 +34,7 @@ impl From<Test> for u8 {
 impl TryFrom<u8> for Test {
     type Error = UnknownCode;
 
-    ghost try_from_gives = { Decodes test_number (from_to 0 4) test_of };
+    ghost try_from_gives = { Decodes test_number (code_between 0 4) test_of };
 
     fn try_from(code: u8) -> Result<Test, UnknownCode> {
         match code {
@@ -51,7 +51,7 @@ impl TryFrom<u8> for Test {
 impl Coded for Test {
     ghost code = { test_number };
 
-    ghost is_code = { from_to 0 4 };
+    ghost is_code = { code_between 0 4 };
 
     ghost coded = { test_of };
 
@@ -96,7 +96,7 @@ impl From<Mix> for u8 {
 impl TryFrom<u8> for Mix {
     type Error = UnknownCode;
 
-    ghost try_from_gives = { Decodes mix_number (from_to 0 2) mix_of };
+    ghost try_from_gives = { Decodes mix_number (code_between 0 2) mix_of };
 
     fn try_from(code: u8) -> Result<Mix, UnknownCode> {
         match code {
@@ -111,7 +111,7 @@ impl TryFrom<u8> for Mix {
 impl Coded for Mix {
     ghost code = { mix_number };
 
-    ghost is_code = { from_to 0 2 };
+    ghost is_code = { code_between 0 2 };
 
     ghost coded = { mix_of };
 

@@ -8,7 +8,7 @@ use meaning::state::Size;
 use std::alloc::AllocError;
 
 // A hexadecimal digit.
-// Kept: by hand, on bytes. The library's digits come as a String, and `push_rows` on a String would ask more of callers: what lies before would have to be text.
+// Kept: by hand, on bytes. `char::from_digit` gives a char in an Option, to be unwrapped and cast back to this byte, and `{:02x}` wants a String, which would ask more of callers.
 fn hex_digit(n: u8) -> u8
     requires { n < 16 }
     ensures { result ≡ digit n }

@@ -7,33 +7,12 @@ use Rattle.codec.specs.Refusals.{refusal_number, refusal_place}
 use Rattle.codec.specs.Judged.{Verdict, refused, taken, judged}
 use Rattle.codec.specs.Kinds.{built_yet}
 use Rattle.codec.specs.Shows.{shows}
-use Rattle.codec.specs.Taken.{commands_of}
 use Rattle.codec.specs.Walk.{There, listed}
 use Rattle.reference.specs.declared.job.Job.{Job}
-use Rattle.reference.specs.declared.job.Estimate.{Estimate}
 use Rattle.reference.specs.declared.job.Needs.{Needs}
+use Rattle.reference.specs.declared.job.Task.{Task}
 use Rattle.reference.specs.declared.lengths.Lengths.{Lengths}
 use Rattle.reference.specs.Made.{dots, work_for, shown_for, lent}
-
--- the file is taken, and its commands are in bounds
-pub record Known (file : List ℕ) (j : Job) : Type 0 where
-  pub images : List Image
-  pub same : j.file.bytes.now ≡ file
-  pub verdict : judged built_yet file ≡ taken j.file.summary.size images (commands_of j.file)
-  pub fits : ListFits j.file.summary.size images (commands_of j.file)
-  pub many : j.shows ≡ shows (commands_of j.file)
-
--- these are the lengths that its commands need
-pub record Estimated (file : List ℕ) (e : Estimate) : Type 0 where
-  pub known : Known file e.job
-  pub colours : e.lengths.colours ≡ dots e.job.file.summary.size * 3
-  pub depths : e.lengths.depths ≡ dots e.job.file.summary.size
-  pub work : e.lengths.work ≡ work_for e.job.file.summary.size (commands_of e.job.file)
-  pub shown : e.lengths.shown ≡ shown_for e.job.file.summary.size (commands_of e.job.file)
-
-abbrev pub EstimateIs : List ℕ → Result Estimate Refusal → Type 0
-EstimateIs file (Ok e) = Estimated file e
-EstimateIs file (Err e) = judged built_yet file ≡ refused (refusal_number e) (refusal_place e)
 
 -- the file is taken, its commands can be read again, they are in bounds, and these are the lengths that they need
 pub record Sized (file : List ℕ) (n : Needs) : Type 0 where
@@ -51,18 +30,38 @@ abbrev pub Measured : List ℕ → Result Needs Refusal → Type 0
 Measured file (Ok n) = Sized file n
 Measured file (Err e) = judged built_yet file ≡ refused (refusal_number e) (refusal_place e)
 
+-- a task is the file's own
+pub record Own (file : List ℕ) (t : Task) : Type 0 where
+  pub bytes : t.file.bytes.now ≡ file
+  pub summary : t.file.summary ≡ t.needs.summary
+
+abbrev pub Assessed : List ℕ → Result Task Refusal → Type 0
+Assessed file (Ok t) = Own file t × Sized file t.needs
+Assessed file (Err e) = Measured file (Err e)
+
 -- a file's verdict, with memory of these lengths judged last
 abbrev pub verdict_over : Lengths → List ℕ → Verdict
 verdict_over l file = lent (judged built_yet file) l.colours l.depths l.work l.shown
 
--- the verdict stays, and there is room for the picture and for what is shown
+-- the file is taken, its commands can be read again, they are in bounds, and there is room for the picture and for what is shown
 pub record Ready (file : List ℕ) (l : Lengths) (j : Job) : Type 0 where
-  pub known : Known file j
-  pub verdict : verdict_over l file ≡ taken j.file.summary.size known.images (commands_of j.file)
-  pub colours : dots j.file.summary.size * 3 ≤ l.colours
-  pub depths : dots j.file.summary.size ≤ l.depths
-  pub room : shown_for j.file.summary.size (commands_of j.file) ≤ l.shown
+  pub images : List Image
+  pub verdict : verdict_over l file ≡ taken j.summary.size images (listed file j.summary)
+  pub there : There file j.summary
+  pub fits : ListFits j.summary.size images (listed file j.summary)
+  pub many : j.shows ≡ shows (listed file j.summary)
+  pub colours : dots j.summary.size * 3 ≤ l.colours
+  pub depths : dots j.summary.size ≤ l.depths
+  pub room : shown_for j.summary.size (listed file j.summary) ≤ l.shown
 
 abbrev pub Admitted : List ℕ → Lengths → Result Job Refusal → Type 0
 Admitted file l (Ok j) = Ready file l j
 Admitted file l (Err e) = verdict_over l file ≡ refused (refusal_number e) (refusal_place e)
+
+-- the job of a task
+abbrev pub job_of : Task → Job
+job_of t = record { summary = t.needs.summary; shows = t.needs.shows }
+
+abbrev pub Accepted : List ℕ → Lengths → Result Task Refusal → Type 0
+Accepted file l (Ok t) = Own file t × Ready file l (job_of t)
+Accepted file l (Err e) = Admitted file l (Err e)

@@ -4,7 +4,7 @@ ghost use Rattle.reference.specs.Dots.{Drawn};
 ghost use Rattle.reference.specs.Made.{Made, SamePictures};
 
 use crate::canvas::Canvas;
-use crate::job::admit;
+use crate::job::accept;
 use crate::lengths::Lengths;
 use codec::refusal::Refusal;
 
@@ -14,7 +14,7 @@ pub trait Draws {
         ensures { Drawn (in_box 0 0 canvas.old.file.summary.size.width canvas.old.file.summary.size.height) canvas.old canvas.new };
 }
 
-// Kept: four slices, in every entry and every painter. They are what a caller lends, and each is refused by a number of its own.
+// Kept: four slices, in every entry and every painter. It is a rule of the project that pictures are made in slices that the caller lends, in this form.
 // The pictures of a file: how many are shown, or why the file is refused. Who draws needs no more than the picture and what is shown; the length of `work` is
 // judged all the same.
 pub fn pictures<D: Draws>(
@@ -27,13 +27,13 @@ pub fn pictures<D: Draws>(
     ensures made { Made file.now colours.old depths.old work.old shown.old result colours.new depths.new work.new shown.new }
     ensures same { SamePictures file.now colours.old depths.old work.old shown.old result shown.new }
 {
-    let job = admit(file, Lengths::of(colours, depths, work, shown))?;
+    let task = accept(file, Lengths::of(colours, depths, work, shown))?;
     let mut canvas = Canvas {
-        file: job.file,
+        file: task.file,
         colours,
         depths,
         shown,
     };
     D::draw(&mut canvas);
-    Ok(job.shows)
+    Ok(task.needs.shows)
 }

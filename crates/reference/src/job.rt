@@ -1,25 +1,10 @@
 // What there is to do: a file that is taken, and enough memory lent for it.
-ghost use Rattle.reference.specs.Admitted.{EstimateIs, Measured, Admitted};
+ghost use Rattle.reference.specs.Admitted.{Assessed, Measured, Accepted, Admitted};
 
 use crate::lengths::Lengths;
-use codec::judge::take;
 use codec::refusal::{Lent, Refusal};
 use codec::summary::Summary;
 use codec::taken::TakenFile;
-
-// A file, and how many pictures it shows.
-#[derive(Clone, Copy)]
-pub struct Job<'a> {
-    pub file: TakenFile<'a>,
-    pub shows: usize,
-}
-
-// A job, and how much memory has to be lent for it.
-#[derive(Clone, Copy)]
-struct Estimate<'a> {
-    job: Job<'a>,
-    lengths: Lengths,
-}
 
 // What a file has, how many pictures it shows, and how much memory has to be lent for them.
 #[derive(Clone, Copy)]
@@ -29,52 +14,72 @@ pub struct Needs {
     pub lengths: Lengths,
 }
 
-fn assess(file: &[u8]) -> Result<Estimate<'_>, Refusal>
-    ensures { EstimateIs file.now result }
+// What a file has for which enough is lent, and how many pictures it shows.
+#[derive(Clone, Copy)]
+pub struct Job {
+    pub summary: Summary,
+    pub shows: usize,
+}
+
+// A file that was taken, and what it needs.
+#[derive(Clone, Copy)]
+pub(crate) struct Task<'a> {
+    pub file: TakenFile<'a>,
+    pub needs: Needs,
+}
+
+fn assess(file: &[u8]) -> Result<Task<'_>, Refusal>
+    ensures { Assessed file.now result }
 {
-    let file = take(file)?;
+    let file = TakenFile::judge(file)?;
     let width = usize::from(file.summary.size.width);
     let height = usize::from(file.summary.size.height);
     let counts = file.counts();
-    Ok(Estimate {
-        job: Job {
-            file,
-            shows: counts.shows,
-        },
+    let needs = Needs {
+        summary: file.summary,
+        shows: counts.shows,
         lengths: Lengths {
             colours: height * width * 3,
             depths: height * width,
             work: height * width * 4 + counts.triangles * 16,
             shown: counts.shows * height * width * 3,
         },
-    })
+    };
+    Ok(Task { file, needs })
 }
 
 // Judges a file and says what it needs.
 pub fn measure(file: &[u8]) -> Result<Needs, Refusal>
     ensures { Measured file.now result }
 {
-    let Estimate { job, lengths } = assess(file)?;
-    Ok(Needs {
-        summary: job.file.summary,
-        shows: job.shows,
-        lengths,
-    })
+    Ok(assess(file)?.needs)
 }
 
 // Judges the file and then the lengths of the lent memory, in the order picture, work, shown.
-pub fn admit(file: &[u8], lent: Lengths) -> Result<Job<'_>, Refusal>
-    ensures { Admitted file.now lent result }
+pub(crate) fn accept(file: &[u8], lent: Lengths) -> Result<Task<'_>, Refusal>
+    ensures { Accepted file.now lent result }
 {
-    let Estimate { job, lengths } = assess(file)?;
-    if lent.colours < lengths.colours || lent.depths < lengths.depths {
+    let task = assess(file)?;
+    let needs = task.needs.lengths;
+    if lent.colours < needs.colours || lent.depths < needs.depths {
         return Err(Refusal::Memory(Lent::Picture));
     }
-    if lent.work < lengths.work {
+    if lent.work < needs.work {
         return Err(Refusal::Memory(Lent::Work));
     }
-    if lent.shown < lengths.shown {
+    if lent.shown < needs.shown {
         return Err(Refusal::Memory(Lent::Shown));
     }
-    Ok(job)
+    Ok(task)
+}
+
+// The same, and says what the file has.
+pub fn admit(file: &[u8], lent: Lengths) -> Result<Job, Refusal>
+    ensures { Admitted file.now lent result }
+{
+    let needs = accept(file, lent)?.needs;
+    Ok(Job {
+        summary: needs.summary,
+        shows: needs.shows,
+    })
 }

@@ -13,7 +13,7 @@ pub fn place_of(size: Size, number: u16, i: u16, j: u16) -> usize
 }
 
 // The dot at a place gets the colour.
-pub fn put_colour(colours: &mut [u8], place: usize, colour: [u8; 3])
+pub(crate) fn put_colour(colours: &mut [u8], place: usize, colour: [u8; 3])
     requires { place * 3 + 3 ≤ length colours.old }
     ensures { OneDot place colour colours.old colours.new }
 {

@@ -52,7 +52,7 @@ impl ReadyTriangle {
     }
 
     // A triangle on the picture: one that goes round against the clock is turned, and one without area paints nothing.
-    fn turned(pen: Pen, triangle: Triangle) -> ReadyTriangle
+    fn clockwise(pen: Pen, triangle: Triangle) -> ReadyTriangle
         requires { Placed triangle }
         ensures { On pen triangle result }
     {
@@ -73,7 +73,7 @@ impl ReadyTriangle {
         ensures placed { Placed result.triangle }
     {
         match view.triangle(corners) {
-            Some(triangle) => ReadyTriangle::turned(pen, triangle),
+            Some(triangle) => ReadyTriangle::clockwise(pen, triangle),
             None => ReadyTriangle::none(),
         }
     }

@@ -1,4 +1,5 @@
 // Triangles in lent work, sixteen words for each.
+// Kept: words of one lent slice, told by their places. The rule is that no memory is used but what is lent, and work is lent as words.
 ghost use Rattle.std.specs.Prelude.{◌≡◌, ℕ, ◌+◌, ◌<◌, ◌≤◌, ◌⊎◌, length, slice_index};
 ghost use Rattle.std.specs.Int.Signed.{mag};
 ghost use Rattle.setup.specs.Ready.{Placed};

@@ -39,7 +39,7 @@ fn fill_colours(row: &mut [u8], colour: [u8; 3])
     }
 }
 
-// Kept: slices and no canvas, here and in `coverage`. A canvas would ask more of callers: a file that was taken, and memory for all that it shows.
+// Kept: slices, here and in `coverage`. A canvas would ask more of callers, a file and memory for what it shows; a struct of size, colours and depths would have to be made of a canvas at each call, and each contract to say that it holds the same slices still.
 // The dots of a box become one and the same.
 pub fn clear_box(colours: &mut [u8], depths: &mut [u16], size: Size, frame: Frame, dot: Dot)
     requires inside { frame.bottom ≤ size.height }

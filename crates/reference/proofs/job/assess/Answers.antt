@@ -1,9 +1,9 @@
-use Rattle.std.proofs.Common.{◌≡◌, ℕ, ◌<◌, List, Ok, get_or, sym, ap, ◌∙◌}
+use Rattle.std.proofs.Common.{◌≡◌, ℕ, ◌<◌, List, Ok, get_or, sym, refl, ap, ◌∙◌, subst}
 use Rattle.meaning.specs.Fits.{ListFits}
 use Rattle.codec.specs.declared.taken.TakenFile.{TakenFile}
 use Rattle.codec.specs.Judged.{judged, taken}
 use Rattle.codec.specs.Kinds.{built_yet}
-use Rattle.codec.specs.Walk.{listed}
+use Rattle.codec.specs.Walk.{There, listed}
 use Rattle.codec.specs.Taken.{commands_of, TakenIs}
 use Rattle.codec.proofs.Files.{written_so}
 use Rattle.codec.proofs.Walks.{same_list}
@@ -22,22 +22,24 @@ module _ (file : List ℕ) (t : TakenFile) (h : TakenIs file (Ok t)) where
 
 pub returns : goal.returns
 returns c =
+    let f = c.args.file.now in
     let t = c.in_ok-file.file in
     let h = c.in_ok-file.ensures in
+    let same = ap (λ (b : List ℕ). listed b t.summary) h.0 in
     let eh = c.from-height.ensures in
     let ew = c.from-width.ensures in
     let en = c.counts-counts.ensures.shows in
-    let et = c.counts-counts.ensures.triangles in
-    record {
-      known = record {
+    let et = c.counts-counts.ensures.triangles in (
+      record { bytes = h.0; summary = refl },
+      record {
         images = h.1.0;
-        same = h.0;
-        verdict = verdict c.args.file.now t h;
-        fits = bounds c.args.file.now t h (λ k. (c.type_inv.file k).fits);
-        many = en;
-      };
-      colours = cc;
-      depths = cc;
-      work = cc;
-      shown = cc;
-    }
+        verdict = rw same at (verdict f t h);
+        there = subst (λ (b : List ℕ). There b t.summary) h.0 t.there;
+        fits = rw same at (bounds f t h (λ k. (c.type_inv.file k).fits));
+        many = rw same at en;
+        colours = cc;
+        depths = cc;
+        work = cc;
+        shown = cc;
+      },
+    )

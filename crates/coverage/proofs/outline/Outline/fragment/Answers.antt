@@ -9,7 +9,7 @@ use Rattle.meaning.proofs.Depths.{not_below, weights}
 use Rattle.meaning.proofs.Weighing.{Computed}
 use Rattle.meaning.specs.declared.triangle.Triangle.{Triangle}
 use Rattle.setup.specs.Ready.{Sound}
-use Rattle.coverage.specs.declared.sides.Sides.{Sides}
+use Rattle.coverage.specs.declared.per_edge.PerEdge.{PerEdge}
 use Rattle.coverage.specs.Walks.{SeenFrom}
 use Rattle.coverage.proofs.outline.Outline.fragment.Goals as goal
 
@@ -21,7 +21,7 @@ Unsigned n z = n ≡ nat_abs (to_z w64 (of_z w64 z))
 weight : (n : ℕ) (z e : ℤ) → SFits w64 z → z ≡ e → pos 0 ≤ℤ e → Unsigned n z → n ≡ mag e
 weight n z e f q h r = omega (arith, ints)
 
-share : (t : Triangle) (i j : ℕ) (m : Place) (s : Sides) (wa wb wc area : ℕ) → m ≡ middle i j → Sound t → SeenFrom t (middle i j) s → covers t.a t.b t.c (middle i j) ≡ true →
+share : (t : Triangle) (i j : ℕ) (m : Place) (s : PerEdge) (wa wb wc area : ℕ) → m ≡ middle i j → Sound t → SeenFrom t (middle i j) s → covers t.a t.b t.c (middle i j) ≡ true →
     area ≡ mag (turns t.a t.b t.c) → SFits w64 s.ab → SFits w64 s.bc → SFits w64 s.ca → Unsigned wa s.bc → Unsigned wb s.ca → Unsigned wc s.ab →
     wa < 2 ^ 64 → wb < 2 ^ 64 → wc < 2 ^ 64 → Computed t.a t.b t.c m wa wb wc area
 unfolding covers

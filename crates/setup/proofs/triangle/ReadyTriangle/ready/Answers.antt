@@ -2,14 +2,14 @@ use Rattle.meaning.specs.Fragments.{triple}
 use Rattle.setup.proofs.Standing.{none_placed, hidden_stands, seen_stands, seen_placed}
 use Rattle.setup.proofs.triangle.ReadyTriangle.ready.Goals as goal
 
-pub turned-requires : goal.turned-requires
-turned-requires c = seen_placed c.args.view (triple c.args.corners) c.in-Some.triangle c.in-Some.ensures
+pub clockwise-requires : goal.clockwise-requires
+clockwise-requires c = seen_placed c.args.view (triple c.args.corners) c.in-Some.triangle c.in-Some.ensures
 
 pub returns-in-Some : goal.returns-in-Some
 returns-in-Some c =
     record {
-      stands = seen_stands c.args.pen c.args.view (triple c.args.corners) c.turned.result c.in-Some.triangle c.in-Some.ensures c.turned.ensures;
-      placed = c.turned.ensures.placed;
+      stands = seen_stands c.args.pen c.args.view (triple c.args.corners) c.clockwise.result c.in-Some.triangle c.in-Some.ensures c.clockwise.ensures;
+      placed = c.clockwise.ensures.placed;
     }
 
 pub returns-in-None : goal.returns-in-None

@@ -4,7 +4,7 @@ use mir.Syntax.{w128}
 use Rattle.std.proofs.lemmas.Int.{ints, to_z-of_z}
 use Rattle.meaning.specs.Meaning.{turns}
 use Rattle.setup.proofs.Standing.{on_clock, on_against, on_flat}
-use Rattle.setup.proofs.triangle.ReadyTriangle.turned.Goals as goal
+use Rattle.setup.proofs.triangle.ReadyTriangle.clockwise.Goals as goal
 
 -- the sign of the area, from tests of its bits
 module _ (z t : ℤ) (f : SFits w128 z) (e : z ≡ t) where

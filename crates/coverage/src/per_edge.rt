@@ -6,17 +6,17 @@ ghost use Rattle.coverage.specs.Walks.{Fit, plus};
 use meaning::geometry::Place;
 use meaning::triangle::Triangle;
 
-// For each edge on which side of it a place lies: twice the area of its two ends and the place, above 0 inside. Or what that gains from dot to dot.
+// The three numbers of a triangle's edges: on which sides of them a place lies, what these sides gain from dot to dot, or from where on they are inside.
 #[derive(Clone, Copy)]
-pub(crate) struct Sides {
+pub(crate) struct PerEdge {
     pub ab: i64,
     pub bc: i64,
     pub ca: i64,
 }
 
-impl Sides {
+impl PerEdge {
     // What a function makes of each edge's two ends.
-    pub(crate) fn of<F: Fn(Place, Place) -> i64>(triangle: Triangle, f: F) -> Sides
+    pub(crate) fn of<F: Fn(Place, Place) -> i64>(triangle: Triangle, f: F) -> PerEdge
         requires ab { F.pre f triangle.a.at triangle.b.at }
         requires bc { F.pre f triangle.b.at triangle.c.at }
         requires ca { F.pre f triangle.c.at triangle.a.at }
@@ -25,18 +25,18 @@ impl Sides {
         ensures ca { F.post f triangle.c.at triangle.a.at result.ca }
     {
         let Triangle { a, b, c } = triangle;
-        Sides {
+        PerEdge {
             ab: f(a.at, b.at),
             bc: f(b.at, c.at),
             ca: f(c.at, a.at),
         }
     }
 
-    pub(crate) fn plus(self, gain: Sides) -> Sides
+    pub(crate) fn plus(self, gain: PerEdge) -> PerEdge
         requires { Fit (plus self gain) }
         ensures { result ≡ plus self gain }
     {
-        Sides {
+        PerEdge {
             ab: self.ab + gain.ab,
             bc: self.bc + gain.bc,
             ca: self.ca + gain.ca,
