@@ -4,6 +4,7 @@ ghost use Rattle.codec.specs.Refusals.{owner_number, refusal_number, refusal_pla
 
 use crate::refusal::Refusal;
 
+// Kept: an enum and no function that makes the refusal, of which each reader's contract would have to say which number and which place it gives.
 #[derive(Clone, Copy, Debug, PartialEq, Eq)]
 pub enum Owner {
     File,

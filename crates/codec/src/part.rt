@@ -3,6 +3,7 @@ ghost use Rattle.std.specs.Prelude.{◌≡◌, ◌≤◌};
 ghost use Rattle.codec.specs.Writing.{part_size, part_ok};
 
 // Where a texture's dots begin among the bytes, its width and height as powers of two beside it.
+// Kept: a place among the bytes and no slice of them, since a text is still adding bytes when it has made its first parts.
 #[derive(Clone, Copy, Debug, PartialEq, Eq)]
 pub struct TexturePart {
     pub across: u8,

@@ -32,6 +32,7 @@ pub enum Refusal {
 
 impl Refusal {
     // The number that a caller is given.
+    // Kept: a number, since it is what is printed; the code itself goes by the variants.
     pub fn number(self) -> u8
         ensures { result ≡ refusal_number self }
     {

@@ -7,7 +7,7 @@ use Rattle.meaning.specs.declared.state.Dot.{Dot}
 use Rattle.meaning.specs.Meaning.{in_frame}
 use Rattle.reference.specs.Boxes.{in_box}
 use Rattle.reference.specs.Changes.{dot_of, Changes}
-use Rattle.reference.proofs.Changes.{changes_wider, changes_none, changes_more}
+use Rattle.reference.proofs.Changes.{changes_wider, changes_more}
 use Rattle.coverage.specs.Walks.{above, before}
 
 module _ (w : ℕ) (f : Frame) (g : ℕ → ℕ → Dot → Dot) (C D : List ℕ) where

@@ -11,6 +11,7 @@ use meaning::brush::Brush;
 use meaning::fragment::Fragment;
 use meaning::state::{Dot, Size};
 use reference::places::{place_of, put_dot};
+use std::array;
 
 // The dot at a place.
 fn dot_at(colours: &[u8], depths: &[u16], place: usize) -> Dot
@@ -20,7 +21,7 @@ fn dot_at(colours: &[u8], depths: &[u16], place: usize) -> Dot
 {
     let first = place * 3;
     Dot {
-        colour: [colours[first], colours[first + 1], colours[first + 2]],
+        colour: array::from_fn(|part| colours[first + part]),
         depth: depths[place],
     }
 }

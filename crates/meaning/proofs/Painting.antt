@@ -1,6 +1,6 @@
 -- What is brought and painted at a place that a triangle covers, from the numbers that the code computes.
 -- Assumes nothing.
-use Rattle.std.proofs.Common.{◌≡◌, ℕ, ◌+◌, ◌*◌, ◌/◌, true, false, cond, not, ◌⊎◌, List, get_or, ℤ, pos, neg_ℤ, ◌<ℤ◌, Some, None, Option, sym, refl, ap, ◌∙◌, inl, inr, arith}
+use Rattle.std.proofs.Common.{◌≡◌, ℕ, true, false, cond, not, ◌⊎◌, List, ℤ, pos, neg_ℤ, ◌<ℤ◌, Some, None, Option, sym, refl, ap, ◌∙◌, inl, inr, arith}
 use lib.Signed.{lt_z}
 use Rattle.meaning.specs.declared.geometry.Place.{Place}
 use Rattle.meaning.specs.declared.points.Point.{Point}
@@ -11,26 +11,12 @@ use borrow.Author.Differences.{ints}
 use Rattle.std.proofs.lemmas.Option.{none-some, same_Some}
 use Rattle.std.proofs.lemmas.Bool.{cond-true, cond-false, or_left, or_right, or_from, and_left, cases_Bool}
 use Rattle.fixed_point.specs.Whole.{sameZ}
-use Rattle.meaning.specs.Meaning.{Image, blended, depth_at, colour_at, texel, brings, turns, covers, middle, in_frame, passes, part_of, painted, if_covered, at_dot, seen_three}
-use Rattle.meaning.specs.Textures.{texels}
+use Rattle.meaning.specs.Meaning.{Image, depth_at, turns, covers, middle, in_frame, passes, part_of, painted, if_covered, at_dot, seen_three}
 use Rattle.meaning.specs.Triangles.{all_of}
 use Rattle.meaning.specs.Weights.{holds}
 use Rattle.meaning.specs.Fragments.{bringing, mixing}
 use Rattle.meaning.proofs.Sides.{is_above}
 use Rattle.meaning.proofs.Depths.{turns_back}
-
-module _ (t : Option Image) (a b c : Point) (m : Place) (l : List ℕ) (u v : ℕ) (eu : u ≡ blended a b c m a.u b.u c.u) (ev : v ≡ blended a b c m a.v b.v c.v)
-    (el : l ≡ texels t u v) where
-  dots : l ≡ texels t (blended a b c m a.u b.u c.u) (blended a b c m a.v b.v c.v)
-  dots = el ∙ ap (λ (i : ℕ). texels t i v) eu ∙ ap (λ (i : ℕ). texels t (blended a b c m a.u b.u c.u) i) ev
-
-  -- part k of the colour, where the texture's dot has a part k
-  pub brought : (k : ℕ) → ((i j : ℕ) → get_or (texels t i j) k 0 ≡ texel t i j k) →
-      (r p : ℕ) → p ≡ colour_at a b c m k → r ≡ (p * get_or l k 0 + 127) / 255 → r ≡ brings t a b c m k
-  unfolding brings
-  brought k has r p f g =
-      g ∙ ap (λ (i : ℕ). (p * i + 127) / 255) (ap (λ (i : List ℕ). get_or i k 0) dots ∙ has _ _)
-      ∙ ap (λ (i : ℕ). (i * texel t (blended a b c m a.u b.u c.u) (blended a b c m a.v b.v c.v) k + 127) / 255) f
 
 -- ---- a dot that is painted, or not
 module _ (t : Option Image) (p : Pen) (a b c : Point) (m : Place) (d : Dot) (n : ℕ) (en : n ≡ depth_at a b c m) where

@@ -14,6 +14,7 @@ use crate::projection::View;
 use crate::state::Dot;
 use crate::texture::{Texture, sample};
 use crate::triangle::Triangle;
+use std::array;
 
 // One part of a colour through the same part of the texture's dot, rounded.
 fn tint(colour: u8, texel: u8) -> u8
@@ -26,11 +27,7 @@ fn tint(colour: u8, texel: u8) -> u8
 fn mix_colours(mix: Mix, new: [u8; 4], old: [u8; 3]) -> [u8; 3]
     ensures { result ≡ mixing mix new old }
 {
-    [
-        mix.mix(new[3], new[0], old[0]),
-        mix.mix(new[3], new[1], old[1]),
-        mix.mix(new[3], new[2], old[2]),
-    ]
+    array::from_fn(|k| mix.mix(new[3], new[k], old[k]))
 }
 
 impl Triangle {
@@ -76,6 +73,7 @@ impl Fragment {
     }
 
     // The colour that the triangle brings, through the texture.
+    #[tactic(auto, unfolding(crate::specs::Meaning::brings))]
     pub fn colour(self, texture: Option<Texture<'_>>) -> [u8; 4]
         ensures { result ≡ bringing (image_if texture.entry) self.triangle.a self.triangle.b self.triangle.c self.place }
     {
@@ -83,12 +81,7 @@ impl Fragment {
         let u = self.blend(a.u, b.u, c.u);
         let v = self.blend(a.v, b.v, c.v);
         let texel = sample(texture, u, v);
-        [
-            tint(self.part(0), texel[0]),
-            tint(self.part(1), texel[1]),
-            tint(self.part(2), texel[2]),
-            tint(self.part(3), texel[3]),
-        ]
+        array::from_fn(|k| tint(self.part(k), texel[k]))
     }
 
     // What the dot here becomes.

@@ -152,7 +152,7 @@ impl Frame {
     pub fn contains(self, i: u16, j: u16) -> bool
         ensures { result ≡ in_frame self i j }
     {
-        self.left <= i && i < self.right && self.top <= j && j < self.bottom
+        (self.left..self.right).contains(&i) && (self.top..self.bottom).contains(&j)
     }
 }
 

@@ -51,6 +51,7 @@ impl Row {
 }
 
 // How far a corner is away, or nothing where that is too near or too far.
+// Kept: two comparisons, here and in `bounded`. By `contains` the proof didn't close: what is known of the number before its cast was lost.
 fn in_sight(away: i64) -> Option<u32>
     ensures { MatchOption result (is_in_sight away ≡ false) (λ w. Sighted away w) }
 {

@@ -2,6 +2,8 @@
 ghost use Rattle.std.specs.Prelude.{◌≡◌, Some, slice_index};
 ghost use Rattle.meaning.specs.Textures.{image_of, image_if, texels};
 
+use std::array;
+
 // Its width and height as powers of two, at most 8, and its dots by rows, four bytes each, where they lie in the file.
 #[derive(Clone, Copy)]
 pub struct Texture<'a> {
@@ -27,12 +29,7 @@ impl Texture<'_> {
         let column = usize::from(u / 256) % width;
         let row = usize::from(v / 256) % height;
         let at = 4 * (row * width + column);
-        [
-            byte_at(self.dots, at),
-            byte_at(self.dots, at + 1),
-            byte_at(self.dots, at + 2),
-            byte_at(self.dots, at + 3),
-        ]
+        array::from_fn(|k| byte_at(self.dots, at + k))
     }
 }
 

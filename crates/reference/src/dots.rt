@@ -37,6 +37,7 @@ fn obey_all(file: TakenFile<'_>, i: u16, j: u16, shown: &mut [u8]) -> Dot
 }
 
 // Dot (i, j) of every picture.
+// Kept: that a dot lies in the picture is asked of its two numbers, here, above and in `coverage`, for the same reason as they are two.
 fn mean_dot(canvas: &mut Canvas<'_>, i: u16, j: u16)
     requires across { i < canvas.old.file.summary.size.width }
     requires down { j < canvas.old.file.summary.size.height }

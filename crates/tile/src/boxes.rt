@@ -50,6 +50,7 @@ pub fn clear_box(colours: &mut [u8], depths: &mut [u16], size: Size, frame: Fram
     let width = usize::from(size.width);
     let (left, right) = part(size.width, frame.left, frame.right);
     let (top, bottom) = part(size.height, frame.top, frame.bottom);
+    // Kept: rows by their places, here and below. What a slice holds after it was lent in chunks is not known.
     for j in top..bottom {
         let row = j * width;
         fill_colours(
