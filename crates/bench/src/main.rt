@@ -68,6 +68,7 @@ fn main(rt: HostRuntime) -> anyhow::Result<()> {
         making = making.min(time);
         let (judged, time) = timed(&rt, || measure(&file))?;
         judging = judging.min(time);
+        // Kept: is_err and no unwrap, since `timed` promises nothing of what its task gives.
         if made.is_err() || judged.is_err() {
             bail!("the file is refused; make says why");
         }

@@ -12,6 +12,7 @@ use crate::reader::Reader;
 use crate::refusal::Refusal;
 
 // A type of numbers without sign that take N bytes, the low one first.
+// Kept: each `impl` repeats the clause of `from_bytes`; without it the check states none for an array of the type's own length.
 pub trait Number<const N: usize>: Copy + PartialOrd {
     ghost worth: { Self → ℕ };
 
@@ -25,6 +26,7 @@ pub trait Number<const N: usize>: Copy + PartialOrd {
     final fn is_between(self, least: Self, most: Self) -> bool
         ensures { result ≡ (nat_le (worth least) (worth self) && nat_le (worth self) (worth most)) }
     {
+        // Kept: two comparisons; a range would want more of `T` than an order.
         least <= self && self <= most
     }
 }

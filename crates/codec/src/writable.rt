@@ -19,10 +19,8 @@ fn is_size(size: Size) -> bool
 fn is_frame(frame: Frame, size: Size) -> bool
     ensures { result ≡ frame_ok size frame }
 {
-    frame.left <= frame.right
-        && frame.right <= size.width
-        && frame.top <= frame.bottom
-        && frame.bottom <= size.height
+    (frame.left..=size.width).contains(&frame.right)
+        && (frame.top..=size.height).contains(&frame.bottom)
 }
 
 // Whether the command can be written, beside so many textures. What its type says of it lasts in the second promise.

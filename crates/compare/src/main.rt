@@ -12,6 +12,7 @@ use meaning::pen::{Frame, Mix, Pen, Test};
 use meaning::state::Size;
 use reference::job::measure;
 use std::alloc::Global;
+use std::array;
 
 mod random;
 
@@ -72,7 +73,7 @@ fn random_command(random: &mut Random, size: Size) -> Command {
         0 => Command::Pen(random_pen(random, size)),
         1 => Command::Show,
         _ => {
-            let colour = [random.byte(), random.byte(), random.byte()];
+            let colour = array::from_fn(|_| random.byte());
             Command::Clear {
                 colour,
                 depth: random.below(65_535),

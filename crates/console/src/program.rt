@@ -28,6 +28,7 @@ fn read_file(rt: &HostRuntime, name: &str) -> anyhow::Result<Vec<u8>> {
 
 impl<P: Painter> Program<P> {
     // Prints the pictures of a file, or the help that is asked for in its place; says whether it did, and not only why the file is refused.
+    // Kept: a bool, since all that follows from it is the status of the program, and `finish` says which.
     pub fn print(
         &self,
         rt: &HostRuntime,

@@ -29,7 +29,7 @@ pub(crate) struct Outline {
     ghost gains: { Gains triangle across down least },
 }
 
-// What an edge's side gains from one middle to the next of the row. It is 256 there, so no step is rounded.
+// What an edge's side gains from one middle to the next of the row. It is 256 from one to the next, so no step is rounded.
 fn across(p: Place, q: Place) -> i64
     ensures { result ≡ across_gain p q }
 {

@@ -19,6 +19,7 @@ fn dot_at<const STEPS: usize>(example: &Example<STEPS>, i: u16, j: u16) -> Dot {
     state.dot
 }
 
+// Kept: printing of its own. It stands on the meaning alone, so that no crate between has a say in what it prints.
 fn print_picture<const STEPS: usize>(
     rt: &HostRuntime,
     example: &Example<STEPS>,

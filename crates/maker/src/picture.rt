@@ -19,7 +19,7 @@ fn tile_end(start: u16, edge: u16) -> u16
 }
 
 // A row of tiles.
-// Kept: that a frame ends within the picture is asked of it here, in tiles.rt and in `tile`. It is a fact of two values, frame and size, and a type for it would be made at each call.
+// Kept: that a frame ends within the picture is asked of it here, in tiles.rt, in `tile` and in `coverage`. It is a fact of two values, frame and size, and a type for it would be made at each call.
 fn paint_band(canvas: &mut Canvas<'_>, band: Frame)
     requires across { band.left ≤ band.right }
     requires inside { band.bottom ≤ canvas.old.file.summary.size.height }

@@ -12,7 +12,6 @@ use Rattle.codec.specs.Shows.{shows}
 use Rattle.codec.proofs.Files.{read_back}
 use Rattle.codec.specs.Taken.{commands_of}
 use Rattle.codec.specs.Walk.{listed}
-use Rattle.codec.specs.declared.summary.Summary.{Summary}
 use Rattle.reference.specs.declared.job.Job.{Job}
 use Rattle.reference.specs.declared.job.Task.{Task}
 use Rattle.reference.specs.Boxes.{in_box}
@@ -22,7 +21,7 @@ use Rattle.reference.specs.Dots.{Drawn}
 use Rattle.reference.specs.Shows.{Region, Room}
 use Rattle.reference.specs.Whole.{pictures_in}
 use Rattle.reference.specs.Made.{dots, work_for, shown_for, lent, Leaves, Made, MadeIsMeant}
-use Rattle.reference.specs.Admitted.{Own, Ready, Accepted, job_of, verdict_over}
+use Rattle.reference.specs.Admitted.{Ready, Accepted, job_of, verdict_over}
 use Rattle.reference.proofs.Wholes.{whole, pictures_cut, many_pictures}
 
 -- ---- where enough is lent the verdict stays
@@ -40,40 +39,34 @@ module _ (file C D W S : List ℕ) (l : Lengths) (colours : l.colours ≡ length
   pub made_none : (e : Refusal) → Accepted file l (Err e) → Made file C D W S (Err e) C D W S
   made_none e h = subst (λ (v : Verdict). Leaves v C D W S (Err e) C D W S) (sym h ∙ lent_so) (refl, refl, refl, refl, refl, refl)
 
-  -- what the task's file commands, over its own bytes
-  same_list : (t : Task) → Own file t → listed file t.needs.summary ≡ commands_of t.file
-  same_list t o = λ i. listed (sym o.bytes i) (sym o.summary i)
-
   -- there is room for what the job names
   room_needed : (j : Job) → Ready file l j → Room j.summary.size (shows (listed file j.summary)) C D S
   room_needed j r = record { colours = rw (← colours) r.colours; depths = rw (← depths) r.depths; shown = rw (← shown) r.room }
 
-  pub room_lent : (t : Task) → Own file t → Ready file l (job_of t) → Room t.file.summary.size (shows (commands_of t.file)) C D S
-  room_lent t o r =
-      subst (λ (m : Summary). Room m.size (shows (commands_of t.file)) C D S) (sym o.summary)
-      (subst (λ (cs : List Instruction). Room t.needs.summary.size (shows cs) C D S) (same_list t o) (room_needed (job_of t) r))
+  -- what the task's file commands, over its own bytes
+  same_list : (t : Task) → t.file.bytes.now ≡ file → listed file t.file.summary ≡ commands_of t.file
+  same_list t o = ap (λ (b : List ℕ). listed b t.file.summary) (sym o)
+
+  pub room_lent : (t : Task) → t.file.bytes.now ≡ file → Ready file l (job_of t) → Room t.file.summary.size (shows (commands_of t.file)) C D S
+  room_lent t o r = subst (λ (cs : List Instruction). Room t.file.summary.size (shows cs) C D S) (same_list t o) (room_needed (job_of t) r)
 
   -- x is the canvas of the lent slices, and C', D' and S' are what they hold in the end
-  pub made_all : (t : Task) (x y : Canvas) (C' D' S' : List ℕ) → Own file t → Ready file l (job_of t) → x.file ≡ t.file → x.colours.now ≡ C → x.depths.now ≡ D → x.shown.now ≡ S →
+  pub made_all : (t : Task) (x y : Canvas) (C' D' S' : List ℕ) → t.file.bytes.now ≡ file → Ready file l (job_of t) → x.file ≡ t.file → x.colours.now ≡ C → x.depths.now ≡ D → x.shown.now ≡ S →
       Drawn (in_box 0 0 x.file.summary.size.width x.file.summary.size.height) x y →
-      C' ≡ y.colours.now → D' ≡ y.depths.now → S' ≡ y.shown.now → Made file C D W S (Ok t.needs.shows) C' D' W S'
+      C' ≡ y.colours.now → D' ≡ y.depths.now → S' ≡ y.shown.now → Made file C D W S (Ok t.shows) C' D' W S'
   made_all t x y C' D' S' n r f p q s o c d e =
-      let list = sym (same_list t n) in
-      let size : t.file.summary.size ≡ t.needs.summary.size = ap (λ (m : Summary). m.size) n.summary in
-      let all = λ (ts : List Image).
-      subst (λ (k : TakenFile). Region ts k.summary.size (commands_of k) (in_box 0 0 k.summary.size.width k.summary.size.height) x.colours.now x.depths.now x.shown.now y.colours.now y.depths.now y.shown.now)
-      f (o.meant ts) in
-      let own = t.file.summary.size in
-      let room : Room t.needs.summary.size (shows (listed file t.needs.summary)) x.colours.now x.depths.now x.shown.now = rw (p, q, s) (room_needed (job_of t) r) in
+      let u = t.file.summary.size in
+      let cs = listed file t.file.summary in
       let region = λ (ts : List Image).
-      subst (λ (k : Size). Region ts k (listed file t.needs.summary) (in_box 0 0 k.width k.height) x.colours.now x.depths.now x.shown.now y.colours.now y.depths.now y.shown.now) size
-      (subst (λ (cs : List Instruction). Region ts own cs (in_box 0 0 own.width own.height) x.colours.now x.depths.now x.shown.now y.colours.now y.depths.now y.shown.now) list (all ts)) in
+      subst (λ (is : List Instruction). Region ts u is (in_box 0 0 u.width u.height) x.colours.now x.depths.now x.shown.now y.colours.now y.depths.now y.shown.now) (sym (same_list t n))
+      (subst (λ (k : TakenFile). Region ts k.summary.size (commands_of k) (in_box 0 0 k.summary.size.width k.summary.size.height) x.colours.now x.depths.now x.shown.now y.colours.now y.depths.now y.shown.now)
+      f (o.meant ts)) in
       rw (c, d, e) (
-      subst (λ (v : Verdict). Leaves v C D W S (Ok t.needs.shows) y.colours.now y.depths.now W y.shown.now) (sym r.verdict ∙ lent_so) (
+      subst (λ (v : Verdict). Leaves v C D W S (Ok t.shows) y.colours.now y.depths.now W y.shown.now) (sym r.verdict ∙ lent_so) (
         r.many,
         rw (p, q, s) at
-            (whole r.images t.needs.summary.size (listed file t.needs.summary) x.colours.now x.depths.now x.shown.now y.colours.now y.depths.now y.shown.now
-            r.fits room o.same.colours.long o.same.depths.long o.same.shown.long (region r.images)),
+            (whole r.images u cs x.colours.now x.depths.now x.shown.now y.colours.now y.depths.now y.shown.now
+            r.fits (rw (p, q, s) (room_needed (job_of t) r)) o.same.colours.long o.same.depths.long o.same.shown.long (region r.images)),
       ))
 
 -- ---- the pictures that are made are those that the commands mean

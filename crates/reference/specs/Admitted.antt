@@ -30,13 +30,12 @@ abbrev pub Measured : List ℕ → Result Needs Refusal → Type 0
 Measured file (Ok n) = Sized file n
 Measured file (Err e) = judged built_yet file ≡ refused (refusal_number e) (refusal_place e)
 
--- a task is the file's own
-pub record Own (file : List ℕ) (t : Task) : Type 0 where
-  pub bytes : t.file.bytes.now ≡ file
-  pub summary : t.file.summary ≡ t.needs.summary
+-- what a task needs
+abbrev pub needs_of : Task → Needs
+needs_of t = record { summary = t.file.summary; shows = t.shows; lengths = t.lengths }
 
 abbrev pub Assessed : List ℕ → Result Task Refusal → Type 0
-Assessed file (Ok t) = Own file t × Sized file t.needs
+Assessed file (Ok t) = (t.file.bytes.now ≡ file) × Sized file (needs_of t)
 Assessed file (Err e) = Measured file (Err e)
 
 -- a file's verdict, with memory of these lengths judged last
@@ -60,8 +59,8 @@ Admitted file l (Err e) = verdict_over l file ≡ refused (refusal_number e) (re
 
 -- the job of a task
 abbrev pub job_of : Task → Job
-job_of t = record { summary = t.needs.summary; shows = t.needs.shows }
+job_of t = record { summary = t.file.summary; shows = t.shows }
 
 abbrev pub Accepted : List ℕ → Lengths → Result Task Refusal → Type 0
-Accepted file l (Ok t) = Own file t × Ready file l (job_of t)
+Accepted file l (Ok t) = (t.file.bytes.now ≡ file) × Ready file l (job_of t)
 Accepted file l (Err e) = Admitted file l (Err e)

@@ -35,5 +35,5 @@ pub fn pictures<D: Draws>(
         shown,
     };
     D::draw(&mut canvas);
-    Ok(task.needs.shows)
+    Ok(task.shows)
 }

@@ -21,11 +21,12 @@ pub struct Job {
     pub shows: usize,
 }
 
-// A file that was taken, and what it needs.
+// A file that was taken, how many pictures it shows, and how much memory has to be lent for them.
 #[derive(Clone, Copy)]
 pub(crate) struct Task<'a> {
     pub file: TakenFile<'a>,
-    pub needs: Needs,
+    pub shows: usize,
+    pub lengths: Lengths,
 }
 
 fn assess(file: &[u8]) -> Result<Task<'_>, Refusal>
@@ -35,8 +36,8 @@ fn assess(file: &[u8]) -> Result<Task<'_>, Refusal>
     let width = usize::from(file.summary.size.width);
     let height = usize::from(file.summary.size.height);
     let counts = file.counts();
-    let needs = Needs {
-        summary: file.summary,
+    Ok(Task {
+        file,
         shows: counts.shows,
         lengths: Lengths {
             colours: height * width * 3,
@@ -44,15 +45,19 @@ fn assess(file: &[u8]) -> Result<Task<'_>, Refusal>
             work: height * width * 4 + counts.triangles * 16,
             shown: counts.shows * height * width * 3,
         },
-    };
-    Ok(Task { file, needs })
+    })
 }
 
 // Judges a file and says what it needs.
 pub fn measure(file: &[u8]) -> Result<Needs, Refusal>
     ensures { Measured file.now result }
 {
-    Ok(assess(file)?.needs)
+    let task = assess(file)?;
+    Ok(Needs {
+        summary: task.file.summary,
+        shows: task.shows,
+        lengths: task.lengths,
+    })
 }
 
 // Judges the file and then the lengths of the lent memory, in the order picture, work, shown.
@@ -60,7 +65,7 @@ pub(crate) fn accept(file: &[u8], lent: Lengths) -> Result<Task<'_>, Refusal>
     ensures { Accepted file.now lent result }
 {
     let task = assess(file)?;
-    let needs = task.needs.lengths;
+    let needs = task.lengths;
     if lent.colours < needs.colours || lent.depths < needs.depths {
         return Err(Refusal::Memory(Lent::Picture));
     }
@@ -77,9 +82,9 @@ pub(crate) fn accept(file: &[u8], lent: Lengths) -> Result<Task<'_>, Refusal>
 pub fn admit(file: &[u8], lent: Lengths) -> Result<Job, Refusal>
     ensures { Admitted file.now lent result }
 {
-    let needs = accept(file, lent)?.needs;
+    let task = accept(file, lent)?;
     Ok(Job {
-        summary: needs.summary,
-        shows: needs.shows,
+        summary: task.file.summary,
+        shows: task.shows,
     })
 }

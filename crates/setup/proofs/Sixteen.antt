@@ -1,6 +1,6 @@
 -- Triangles in sixteen words: what is put in is taken out again, and no other word counts.
 -- Assumes nothing.
-use Rattle.std.proofs.Common.{◌≡◌, ℕ, ◌+◌, ◌-◌, ◌<◌, ◌≤◌, ◌⊎◌, List, [], ◌∷◌, length, get_or, take, drop, ◌∙◌, inl, inr, arith, w32, to_z, of_z}
+use Rattle.std.proofs.Common.{◌≡◌, ℕ, ◌+◌, ◌-◌, ◌<◌, ◌≤◌, ◌⊎◌, List, [], ◌∷◌, length, get_or, ◌∙◌, inl, inr, arith, w32, to_z, of_z}
 use borrow.Rule.Slice.PartMut.{put_mid}
 use Rattle.std.proofs.lemmas.List.{places}
 use Rattle.setup.specs.declared.triangle.ReadyTriangle.{ReadyTriangle}
@@ -51,10 +51,6 @@ packed r p w0 w1 w2 w3 w4 w5 w6 w7 w8 w9 w10 w11 w12 w13 w14 w15 e0 e1 e2 e3 e4 
           };
       frame = record { left = e18 i; top = e20 i; right = e19 i; bottom = e21 i };
     }
-
--- a part of a list
-pub part_read : (W : List ℕ) (at n : ℕ) → n < 16 → get_or (take ((at + 16) - at) (drop at W)) n 0 ≡ get_or W (at + n) 0
-part_read W at n h = grind (arith, places)
 
 -- a part of a list that was written, and the others
 module _ (W new : List ℕ) (at : ℕ) (room : at + 16 ≤ length W) (sixteen : length new ≡ 16) where

@@ -10,6 +10,7 @@ use meaning::geometry::Place;
 use meaning::pen::Frame;
 use meaning::points::Point;
 use meaning::triangle::Triangle;
+use std::array;
 
 // A coordinate as its distance from the least one, which wants no sign.
 fn distance(x: i32) -> u32
@@ -70,9 +71,8 @@ fn unpack_point(x: u32, y: u32, depth: u16, texture: u32, colour: u32) -> Point
 }
 
 // The triangle of sixteen words.
-fn unpack(words: &[u32]) -> ReadyTriangle
-    requires { length words.now ≡ 16 }
-    ensures { result ≡ triangle_in (λ n. slice_index words.now n) }
+fn unpack(words: [u32; 16]) -> ReadyTriangle
+    ensures { result ≡ triangle_in (λ n. slice_index words n) }
 {
     let (depth_a, depth_b, depth_c) = (low_half(words[6]), high_half(words[6]), low_half(words[7]));
     ReadyTriangle {
@@ -128,9 +128,10 @@ pub fn store(work: &mut [u32], at: usize, ready: ReadyTriangle)
 }
 
 // The triangle that the work has from word `at` on.
+#[tactic(auto, unfolding(crate::specs::Words::triangle_in))]
 pub fn load(work: &[u32], at: usize) -> ReadyTriangle
     requires { at + 16 ≤ length work.now }
     ensures { result ≡ triangle_of work.now at }
 {
-    unpack(&work[at..at + 16])
+    unpack(array::from_fn(|n| work[at + n]))
 }

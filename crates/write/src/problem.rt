@@ -1,10 +1,11 @@
 // What can go wrong while a text is read.
 use std::alloc::{AllocError, AllocFailed};
+use std::error::Error;
 use std::fmt;
 use std::fmt::Display;
 
 // Where a text goes wrong, lines and columns from 1 on, and what was expected there.
-#[derive(Clone, Copy)]
+#[derive(Clone, Copy, Debug, PartialEq, Eq)]
 pub struct TextError {
     pub line: usize,
     pub column: usize,
@@ -22,7 +23,9 @@ impl Display for TextError {
     }
 }
 
-#[derive(Clone, Copy)]
+impl Error for TextError {}
+
+#[derive(Clone, Copy, Debug, PartialEq, Eq)]
 pub enum Problem {
     Text(TextError),
     Memory,

@@ -15,7 +15,7 @@ returns c =
         images = h.images;
         verdict =
             ap (λ (v : Verdict). lent v l.colours l.depths l.work l.shown) h.verdict
-            ∙ enough t.needs.summary.size h.images (listed c.args.file.now t.needs.summary) l.colours l.depths l.work l.shown (omega arith) (omega arith) (omega arith) (omega arith);
+            ∙ enough t.file.summary.size h.images (listed c.args.file.now t.file.summary) l.colours l.depths l.work l.shown (omega arith) (omega arith) (omega arith) (omega arith);
         there = h.there;
         fits = h.fits;
         many = h.many;

@@ -1,4 +1,4 @@
-use Rattle.std.proofs.Common.{◌≡◌, ℕ, ◌<◌, List, Ok, get_or, sym, refl, ap, ◌∙◌, subst}
+use Rattle.std.proofs.Common.{◌≡◌, ℕ, ◌<◌, List, Ok, get_or, sym, ap, ◌∙◌, subst}
 use Rattle.meaning.specs.Fits.{ListFits}
 use Rattle.codec.specs.declared.taken.TakenFile.{TakenFile}
 use Rattle.codec.specs.Judged.{judged, taken}
@@ -30,7 +30,7 @@ returns c =
     let ew = c.from-width.ensures in
     let en = c.counts-counts.ensures.shows in
     let et = c.counts-counts.ensures.triangles in (
-      record { bytes = h.0; summary = refl },
+      h.0,
       record {
         images = h.1.0;
         verdict = rw same at (verdict f t h);
