@@ -3,7 +3,6 @@
 
 ghost use Rattle.codec.specs.Judged.{ReadBack, WrittenSo, OneList};
 
-mod bounds;
 pub mod bytes;
 pub mod codes;
 pub mod commands;

@@ -2,11 +2,10 @@
 ghost use Rattle.std.specs.Prelude.{◌≡◌, ℕ, ◌≤◌, ◌&&◌, nat_le, Some, IfOk};
 ghost use Rattle.std.specs.Ordering.{nat_cmp};
 ghost use Rattle.std.proofs.Common.{rules};
-ghost use Rattle.codec.specs.Judged.{value, number, whole_number};
+ghost use Rattle.codec.specs.Judged.{value, number, within, whole_number};
 ghost use Rattle.codec.specs.Reader.{Reads, as_it_is};
 ghost use Rattle.codec.specs.Refusals.{owner_number};
 
-use crate::bounds::is_within;
 use crate::owner::Owner;
 use crate::reader::Reader;
 use crate::refusal::Refusal;
@@ -74,6 +73,14 @@ impl Number<4> for u32 {
     {
         u32::from_le_bytes(bytes)
     }
+}
+
+// Whether a number is from -bound to bound - 1.
+fn is_within(number: i32, bound: u32) -> bool
+    ensures { result ≡ within bound number }
+{
+    let bound = i64::from(bound);
+    (-bound..bound).contains(&i64::from(number))
 }
 
 impl Reader<'_> {

@@ -1,5 +1,5 @@
 // A program that prints the pictures of the file that it is given.
-ghost use Rattle.std.specs.Prelude.{◌≡◌, cond, IsNone, IsErr, MatchResult};
+ghost use Rattle.std.specs.Prelude.{◌≡◌, true, cond, codes, IsNone, IfSome, IfOk, IsErr, MatchResult};
 ghost use Rattle.std.specs.Process.{exit_status};
 
 use crate::painter::Painter;
@@ -35,7 +35,8 @@ impl<P: Painter> Program<P> {
         file: Option<&str>,
         ppm: Option<&str>,
     ) -> anyhow::Result<bool>
-        ensures { IsNone file.entry → IsErr result }
+        ensures none { IsNone file.entry → IsErr result }
+        ensures help { IfSome file.entry (λ f. f.now ≡ codes "--help" → IfOk result (λ all. all ≡ true)) }
     {
         let Some(file) = file else {
             bail!("no file is named; {} --help says how", self.name);

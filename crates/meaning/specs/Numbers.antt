@@ -49,13 +49,6 @@ kind_code kinds.Show = 5
 abbrev pub kind_of_code : ℕ → Kind
 kind_of_code n = cond (n == 1) kinds.Pen (cond (n == 2) kinds.Look (cond (n == 3) kinds.Clear (cond (n == 4) kinds.Triangles kinds.Show)))
 
-abbrev pub command_kind : command.Command → Kind
-command_kind (kind.Pen p) = kinds.Pen
-command_kind (kind.Look w) = kinds.Look
-command_kind (kind.Clear c z) = kinds.Clear
-command_kind (kind.Triangles n) = kinds.Triangles
-command_kind kind.Show = kinds.Show
-
 -- a command of a list as the code reads it: of triangles only how many
 abbrev pub header : Instruction → command.Command
 header (pen p) = kind.Pen p

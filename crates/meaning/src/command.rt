@@ -1,6 +1,6 @@
 // The commands of a list, as they are read: of triangles only how many, their corners come one triangle at a time.
 ghost use Rattle.std.specs.Prelude.{◌≡◌};
-ghost use Rattle.meaning.specs.Numbers.{command_kind, kind_code, kind_number};
+ghost use Rattle.meaning.specs.Numbers.{kind_code, kind_number};
 
 use crate::kind::Kind;
 use crate::pen::Pen;
@@ -17,8 +17,7 @@ pub enum Command {
 
 impl Command {
     pub fn kind(self) -> Kind
-        ensures value { result ≡ command_kind self }
-        ensures number { kind_code result ≡ kind_number self }
+        ensures { kind_code result ≡ kind_number self }
     {
         match self {
             Command::Pen(_) => Kind::Pen,

@@ -2,7 +2,7 @@ use Rattle.std.proofs.Common.{◌≡◌, ℕ, ◌^◌, ◌<◌, ◌&&◌, ℤ, p
 use Rattle.std.specs.Prelude.{int_le, int_lt}
 use Rattle.std.proofs.lemmas.Int.{ints, to_z-of_z}
 use Rattle.codec.specs.Judged.{within}
-use Rattle.codec.proofs.bounds.is_within.Goals as goal
+use Rattle.codec.proofs.numbers.is_within.Goals as goal
 
 le_is : (x y : ℤ) → is_le (int_cmp x y) ≡ int_le x y
 le_is x y = grind (arith, ints)
