@@ -24,8 +24,10 @@ pub record Fine (s : Size) (ps : List TexturePart) (n : ℕ) (cs : List Command)
   pub size : size_ok s ≡ true
   pub textures : length ps ≤ 64
   pub each_texture : AllByRecursion (λ p. part_ok n p ≡ true) ps
+  pub no_texture : first_not (part_ok n) ps ≡ None
   pub commands : length cs ≤ 65535
   pub each_command : AllByRecursion (λ c. command_ok s (length ps) c ≡ true) cs
+  pub no_command : first_not (command_ok s (length ps)) cs ≡ None
 
 none_at : (f : ℕ → WriteError) (o : Option ℕ) (x : Option WriteError) → refused_at f o x ≡ None → (o ≡ None) × (x ≡ None)
 none_at f None x h = (refl, h)
@@ -39,7 +41,15 @@ fine s ps n cs h =
     let d = none_at wrong.Texture (first_not (part_ok n) ps) _ b.1 in
     let e = none_if (leb (length cs) 65535) _ wrong.Commands d.1 in
     let f = none_at wrong.Command (first_not (command_ok s (length ps)) cs) None e.1 in
-    record { size = a.0; textures = leb-true _ _ b.0; each_texture = all_pass (part_ok n) ps d.0; commands = leb-true _ _ e.0; each_command = all_pass (command_ok s (length ps)) cs f.0 }
+    record {
+      size = a.0;
+      textures = leb-true _ _ b.0;
+      each_texture = all_pass (part_ok n) ps d.0;
+      no_texture = d.0;
+      commands = leb-true _ _ e.0;
+      each_command = all_pass (command_ok s (length ps)) cs f.0;
+      no_command = f.0;
+    }
 
 image_fits : (dots : List ℕ) → Bytes dots → (p : TexturePart) → part_ok (length dots) p ≡ true → ImageFits (part_image dots p)
 image_fits dots b p h =

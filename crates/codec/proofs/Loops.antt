@@ -20,10 +20,17 @@ pub record Loop {A : Type 0} (read : judged.Reader A) (n i : ℕ) (x y : Reader)
   pub is : times n read (length x.bytes.now) (left x) ≡ then (times (n - i) read (length x.bytes.now) (left y)) (λ more rest. got (done ++ more) rest)
 
 module _ {A : Type 0} where
+  then_got : (m : Got (List A)) → m ≡ then m (λ more rest. got ([] ++ more) rest)
+  then_got (stop k p) = refl
+  then_got (got l rest) = refl
+
   then_more : (m : Got (List A)) (a : A) (d : List A) →
       then (then m (λ more rest. got (a ∷ more) rest)) (λ more rest. got (d ++ more) rest) ≡ then m (λ more rest. got ((d ++ a ∷ []) ++ more) rest)
   then_more (stop k p) a d = refl
   then_more (got l rest) a d = ap (λ (z : List A). got z rest) (sym (append_assoc d (a ∷ []) l))
+
+  pub loop_start : (read : judged.Reader A) (n : ℕ) (x : Reader) → Loop read n 0 x x
+  loop_start read n x = let e : n - 0 ≡ n = omega arith in record { same = refl; done = []; long = refl; is = rw e (then_got (times n read (length x.bytes.now) (left x))) }
 
   module _ {B : Type 0} {f : B → A} {read : judged.Reader A} {n i : ℕ} {x y z : Reader} {r : Result B Refusal} (o : Loop read n i x y) (h : Reads f read y r z) where
     pub loop_more : {b : B} → i < n → r ≡ Ok b → Loop read n (i + 1) x z
@@ -49,11 +56,15 @@ module _ {A : Type 0} where
         let t : times (n - i) read (length x.bytes.now) (left y) ≡ stop (refusal_number b) (refusal_place b) = rw (k, g) in
         record { same = h.same ∙ o.same; is = rw (p.1, p.2) (o.is ∙ rw t) }
 
-  pub loop_end : {read : judged.Reader A} {n i : ℕ} {x y : Reader} (o : Loop read n i x y) → n ≤ i → i ≤ n → ReadsSome (SomeList n) (times n read) x (Ok tt) y
+  pub loop_end : (read : judged.Reader A) (n i : ℕ) (x y : Reader) (o : Loop read n i x y) → n ≤ i → times n read (length x.bytes.now) (left x) ≡ got o.done (left y)
   unfolding times
-  loop_end {n = n} {i = i} o l m =
+  loop_end read n i x y o l =
       let k : n - i ≡ 0 = omega arith in
-      record { same = o.same; is = (o.done, omega (arith, o.long), o.is ∙ rw (k, append-nil)) }
+      o.is ∙ rw (k, append-nil)
+
+  -- the same where the code says only how many
+  pub loop_reads : {read : judged.Reader A} {n i : ℕ} {x y : Reader} (o : Loop read n i x y) → n ≤ i → i ≤ n → ReadsSome (SomeList n) (times n read) x (Ok tt) y
+  loop_reads {read} {n} {i} {x} {y} o l m = record { same = o.same; is = (o.done, omega (arith, o.long), loop_end read n i x y o l) }
 
   -- the same where the code says less
   module _ {B : Type 0} {R : B → A → Type 0} {read : judged.Reader A} {n i : ℕ} {x y z : Reader} {r : Result B Refusal} (o : Loop read n i x y) (h : ReadsSome R read y r z) where

@@ -7,10 +7,23 @@ use Rattle.meaning.specs.declared.state.Dot.{Dot}
 use Rattle.meaning.specs.Meaning.{in_frame}
 use Rattle.reference.specs.Boxes.{in_box}
 use Rattle.reference.specs.Changes.{dot_of, Changes}
-use Rattle.reference.proofs.Changes.{changes_wider, changes_more}
+use Rattle.reference.proofs.Changes.{changes_wider, changes_none, changes_more}
 use Rattle.coverage.specs.Walks.{above, before}
 
 module _ (w : ℕ) (f : Frame) (g : ℕ → ℕ → Dot → Dot) (C D : List ℕ) where
+  -- there is nothing above the first row, nor before the first dot of a row
+  pub none_above : Changes w (above f f.top) g C D C D
+  none_above = changes_none w g (above f f.top) C D (λ a b h. absurd (no a b h))
+    where
+      no : (a b : ℕ) → above f f.top a b ≡ true → ⊥
+      no a b h = grind (arith, nat_tests)
+
+  pub none_before : (j : ℕ) → Changes w (before f f.left j) g C D C D
+  none_before j = changes_none w g (before f f.left j) C D (λ a b h. absurd (no a b h))
+    where
+      no : (a b : ℕ) → before f f.left j a b ≡ true → ⊥
+      no a b h = grind (arith, nat_tests)
+
   module _ (C' D' : List ℕ) where
     -- one dot more
     pub dot_more : (i j : ℕ) (C'' D'' : List ℕ) → f.left ≤ i → i < f.right → f.top ≤ j → j < f.bottom →

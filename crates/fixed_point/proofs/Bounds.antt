@@ -4,6 +4,7 @@ use Rattle.std.proofs.Common.{◌≡◌, ℕ, zero, suc, ◌+◌, ◌*◌, ◌/�
 use mir.Syntax.{Width}
 use Rattle.std.proofs.lemmas.Int.{ints, to_z-of_z}
 use lib.Signed.{mag}
+use Rattle.std.specs.Int.{int_div_euclid}
 use Rattle.std.proofs.Math.Nat.{div-mul-le_self, lt-div-mul-add}
 use Rattle.fixed_point.specs.Whole.{down, RoundsDown}
 
@@ -33,6 +34,10 @@ down_mag (negsuc a) n = refl
 
 pub down_less : (a : ℤ) (n : ℕ) → mag (down a n) ≤ mag a
 down_less a n = rw (down_mag a n) (div-le_self (mag a) n)
+
+pub div_is_down : (a : ℤ) (n : ℕ) → int_div_euclid a (pos n) ≡ down a n
+div_is_down (pos a) n = refl
+div_is_down (negsuc a) n = refl
 
 above : (a q n : ℕ) → suc q * n ≤ a → negsuc a <ℤ (negsuc q *ℤ pos n)
 above a q n h = omega (arith, ints)

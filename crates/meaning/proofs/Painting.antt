@@ -80,6 +80,10 @@ module _ (t : Option Image) (p : Pen) (i j : ℕ) (d : Dot) where
   hidden (Some a) (Some b) None e = refl
   hidden (Some a) (Some b) (Some c) e = absurd (none-some _ e)
 
+  -- the first two are seen, so that the third decides
+  pub third : (a b : Point) (x y z : Option Point) → Some a ≡ x → Some b ≡ y → seen_three t p (Some a) (Some b) z i j d ≡ seen_three t p x y z i j d
+  third a b x y z e f = ap (λ (o : Option Point). seen_three t p o (Some b) z i j d) e ∙ ap (λ (o : Option Point). seen_three t p x o z i j d) f
+
   pub shown : (n : Triangle) (x y z : Option Point) → Some n ≡ all_of x y z → at_dot t p n.a n.b n.c i j d ≡ seen_three t p x y z i j d
   unfolding seen_three
   shown n None y z e = absurd (none-some n (sym e))

@@ -55,6 +55,11 @@ module _ (w : ℕ) (f : ℕ → ℕ → Dot → Dot) where
       depth i j true false e g = absurd (never i j e g)
       depth i j false true e g = sym (ap (λ (d : Dot). d.depth) (same i j g e))
 
+  -- f changes no dot of the region
+  pub changes_none : (R : ℕ → ℕ → Bool) (C D : List ℕ) → ((i j : ℕ) → R i j ≡ true → f i j (dot_of w C D i j) ≡ dot_of w C D i j) → Changes w R f C D C D
+  changes_none R C D same =
+      changes_wider (λ i j. false) R C D C D (λ i j e. absurd (true≢false (sym e))) (λ i j e _. same i j e) (record { colours = λ i j c iw c3. refl; depths = λ i j iw. refl })
+
   -- two regions that have no dot in common
   pub changes_more : (A B R : ℕ → ℕ → Bool) (C D C' D' C'' D'' : List ℕ) → ((i j : ℕ) → R i j ≡ (A i j || B i j)) → ((i j : ℕ) → B i j ≡ true → A i j ≡ false) →
       Changes w A f C D C' D' → Changes w B f C' D' C'' D'' → Changes w R f C D C'' D''

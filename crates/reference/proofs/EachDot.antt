@@ -1,9 +1,10 @@
 -- One dot on its way through all commands, and where it lies.
 -- Assumes nothing.
-use Rattle.std.proofs.Common.{◌≡◌, ℕ, suc, ◌+◌, ◌*◌, ◌<◌, ◌≤◌, Bool, true, cond, ◌&&◌, ◌||◌, eqb, ltb, List, [], ◌∷◌, length, get_or, set, sym, refl, ap, ◌∙◌, subst, inl, inr, zero-add, zero-mul, arith}
+use Rattle.std.proofs.Common.{◌≡◌, ℕ, suc, ◌+◌, ◌-◌, ◌*◌, ◌<◌, ◌≤◌, Bool, true, cond, ◌&&◌, ◌||◌, eqb, ltb, List, [], ◌∷◌, length, get_or, set, sym, refl, ap, ◌∙◌, subst, inl, inr, zero-add, zero-mul, arith}
 use mathlib.Core.Bool.{and-false}
+use borrow.Rule.Slice.PartMut.{put_mid}
 use Rattle.std.proofs.lemmas.List.{get_or-set_same, get_or-set_other}
-use Rattle.std.proofs.lemmas.Bool.{cases_eq, eqb-true, eq-eqb, ne_eqb}
+use Rattle.std.proofs.lemmas.Bool.{cases_eq, cases_order, eqb-true, eq-eqb, ne_eqb}
 use Rattle.std.proofs.lemmas.Bool.Decides.{nat_tests}
 use Rattle.meaning.specs.declared.command.Command.TheVariants.{Show}
 use Rattle.meaning.specs.declared.state.Size.{Size}
@@ -18,7 +19,7 @@ use Rattle.codec.specs.Shows.{counts, total, shows}
 use Rattle.reference.specs.Boxes.{in_box, Colours, Depths}
 use Rattle.reference.specs.Shows.{at_show, seen_dots, no_dot, Pictures}
 use Rattle.reference.specs.Dots.{OneDot}
-use Rattle.reference.proofs.Rows.{row_below}
+use Rattle.reference.proofs.Rows.{put_before, put_in, put_after, row_below}
 use Rattle.reference.proofs.Built.{obeyed_all}
 
 -- ---- places of dots
@@ -35,6 +36,17 @@ alone i j a b = grind (arith, nat_tests)
 
 one_more : (q n : ℕ) → ltb q (n + 1) ≡ (ltb q n || eqb q n)
 one_more q n = grind (arith, nat_tests)
+
+-- a dot whose colour was put back into its picture
+pub put_dot_lem : (xs ys rgb : List ℕ) (at size : ℕ) → size ≡ 3 → at * 3 + 3 ≤ length xs → length ys ≡ 3 → ys ≡ rgb → OneDot at rgb xs (put_mid (at * 3) size xs ys)
+put_dot_lem xs ys rgb at size s3 long three same k c c3 =
+    elim (cases_order k at) [
+      | inl e ↦
+          let p : k * 3 + c - at * 3 ≡ c = omega arith in
+          put_in (at * 3) size xs ys (k * 3 + c) (omega arith) (omega arith) (omega arith) (omega arith) ∙ rw (eq-eqb k at e, p, same)
+      | inr (inl less) ↦ put_before (at * 3) size xs ys (k * 3 + c) (omega arith) (omega arith) ∙ rw (ne_eqb k at (λ e. omega arith))
+      | inr (inr more) ↦ put_after (at * 3) size xs ys (k * 3 + c) (omega arith) (omega arith) (omega arith) ∙ rw (ne_eqb k at (λ e. omega arith))
+    ]
 
 -- what holds of dot (i, j) alone
 only_here : (i j a b : ℕ) (V : ℕ → ℕ → ℕ) (x y : ℕ) → x ≡ V i j → cond (eqb a i && eqb b j) x y ≡ cond (eqb a i && eqb b j) (V a b) y

@@ -50,24 +50,25 @@ module _ (file C D W S : List ℕ) (l : Lengths) (colours : l.colours ≡ length
   pub room_lent : (t : Task) → t.file.bytes.now ≡ file → Ready file l (job_of t) → Room t.file.summary.size (shows (commands_of t.file)) C D S
   room_lent t o r = subst (λ (cs : List Instruction). Room t.file.summary.size (shows cs) C D S) (same_list t o) (room_needed (job_of t) r)
 
+  pub made_all : (j : Job) (C' D' W' S' : List ℕ) (r : Ready file l j) → length C' ≡ length C → length D' ≡ length D → length S' ≡ length S →
+      Region r.images j.summary.size (listed file j.summary) (in_box 0 0 j.summary.size.width j.summary.size.height) C D S C' D' S' →
+      Made file C D W S (Ok j.shows) C' D' W' S'
+  made_all j C' D' W' S' r lc ld ls o =
+      subst (λ (v : Verdict). Leaves v C D W S (Ok j.shows) C' D' W' S') (sym r.verdict ∙ lent_so)
+      (r.many, whole r.images j.summary.size (listed file j.summary) C D S C' D' S' r.fits (room_needed j r) lc ld ls o)
+
   -- x is the canvas of the lent slices, and C', D' and S' are what they hold in the end
-  pub made_all : (t : Task) (x y : Canvas) (C' D' S' : List ℕ) → t.file.bytes.now ≡ file → Ready file l (job_of t) → x.file ≡ t.file → x.colours.now ≡ C → x.depths.now ≡ D → x.shown.now ≡ S →
+  pub made_drawn : (t : Task) (x y : Canvas) (C' D' S' : List ℕ) → t.file.bytes.now ≡ file → Ready file l (job_of t) → x.file ≡ t.file → x.colours.now ≡ C → x.depths.now ≡ D → x.shown.now ≡ S →
       Drawn (in_box 0 0 x.file.summary.size.width x.file.summary.size.height) x y →
       C' ≡ y.colours.now → D' ≡ y.depths.now → S' ≡ y.shown.now → Made file C D W S (Ok t.shows) C' D' W S'
-  made_all t x y C' D' S' n r f p q s o c d e =
+  made_drawn t x y C' D' S' n r f p q s o c d e =
       let u = t.file.summary.size in
-      let cs = listed file t.file.summary in
-      let region = λ (ts : List Image).
-      subst (λ (is : List Instruction). Region ts u is (in_box 0 0 u.width u.height) x.colours.now x.depths.now x.shown.now y.colours.now y.depths.now y.shown.now) (sym (same_list t n))
-      (subst (λ (k : TakenFile). Region ts k.summary.size (commands_of k) (in_box 0 0 k.summary.size.width k.summary.size.height) x.colours.now x.depths.now x.shown.now y.colours.now y.depths.now y.shown.now)
-      f (o.meant ts)) in
-      rw (c, d, e) (
-      subst (λ (v : Verdict). Leaves v C D W S (Ok t.shows) y.colours.now y.depths.now W y.shown.now) (sym r.verdict ∙ lent_so) (
-        r.many,
-        rw (p, q, s) at
-            (whole r.images u cs x.colours.now x.depths.now x.shown.now y.colours.now y.depths.now y.shown.now
-            r.fits (rw (p, q, s) (room_needed (job_of t) r)) o.same.colours.long o.same.depths.long o.same.shown.long (region r.images)),
-      ))
+      let region : Region r.images u (listed file t.file.summary) (in_box 0 0 u.width u.height) x.colours.now x.depths.now x.shown.now y.colours.now y.depths.now y.shown.now =
+      subst (λ (is : List Instruction). Region r.images u is (in_box 0 0 u.width u.height) x.colours.now x.depths.now x.shown.now y.colours.now y.depths.now y.shown.now) (sym (same_list t n))
+      (subst (λ (k : TakenFile). Region r.images k.summary.size (commands_of k) (in_box 0 0 k.summary.size.width k.summary.size.height) x.colours.now x.depths.now x.shown.now y.colours.now y.depths.now y.shown.now)
+      f (o.meant r.images)) in
+      rw (c, d, e)
+      (made_all (job_of t) y.colours.now y.depths.now W y.shown.now r (rw (← p) o.same.colours.long) (rw (← q) o.same.depths.long) (rw (← s) o.same.shown.long) (rw (p, q, s) at region))
 
 -- ---- the pictures that are made are those that the commands mean
 pub made_is_meant : MadeIsMeant

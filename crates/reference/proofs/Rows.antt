@@ -82,6 +82,18 @@ module _ (w l r t j : ℕ) (xs ys old : List ℕ) (lr : l ≤ r) (rw' : r ≤ w)
       (omega arith, omega arith, ap (λ (x : ℕ). get_or ys x 0) e ∙ all (i - l) (omega arith) ∙ ap (λ (x : ℕ). V x j) f ∙ ap (λ (x : ℕ). V i x) (sym same)))
       (inv i m iw)
 
+-- one dot more of a row
+pub three_more : (row ys rgb : List ℕ) (n size : ℕ) → size ≡ 3 → n * 3 + 3 ≤ length row → length ys ≡ 3 → ys ≡ rgb →
+    ((k c : ℕ) → k < n → c < 3 → get_or row (k * 3 + c) 0 ≡ get_or rgb c 0) →
+    (k c : ℕ) → k < n + 1 → c < 3 → get_or (put_mid (n * 3) size row ys) (k * 3 + c) 0 ≡ get_or rgb c 0
+three_more row ys rgb n size s3 long three same inv k c kn c3 =
+    elim (cases_lt k n) [
+      | inl less ↦ put_before (n * 3) size row ys (k * 3 + c) (omega arith) (omega arith) ∙ inv k c less c3
+      | inr here ↦
+          let e : k * 3 + c - n * 3 ≡ c = omega arith in
+          put_in (n * 3) size row ys (k * 3 + c) (omega arith) (omega arith) (omega arith) (omega arith) ∙ (λ x. get_or (same x) (e x) 0)
+    ]
+
 -- ---- a row of one picture that was copied to a row of another
 copied : (w l r base j : ℕ) (xs ys : List ℕ) → ys ≡ take ((j * w + r) * 3 - (j * w + l) * 3) (drop ((j * w + l) * 3) xs) →
     (k c : ℕ) → k < r - l → c < 3 → get_or ys (k * 3 + c) 0 ≡ get_or xs ((((base + j) - base) * w + (l + k)) * 3 + c) 0

@@ -1,6 +1,6 @@
 -- What each command leaves of a region.
 -- Assumes nothing.
-use Rattle.std.proofs.Common.{◌≡◌, ℕ, ◌+◌, ◌*◌, ◌<◌, Bool, true, false, cond, ◌&&◌, ltb, List, [], ◌∷◌, ◌++◌, length, get_or, sym, refl, ap, ◌∙◌, inl, inr, append_assoc, append-nil, arith}
+use Rattle.std.proofs.Common.{◌≡◌, ℕ, ◌+◌, ◌*◌, ◌<◌, ◌≤◌, Bool, true, false, cond, ◌&&◌, ltb, List, [], ◌∷◌, ◌++◌, length, get_or, sym, refl, ap, ◌∙◌, inl, inr, append_assoc, append-nil, mul-le-mul_right, arith}
 use Rattle.std.proofs.lemmas.List.{get_or_append_left, get_or_push, length_push}
 use Rattle.std.proofs.lemmas.Bool.{cases_order, le-ltb, lt-ltb, eq-eqb, ne_eqb}
 use Rattle.meaning.specs.declared.pen.Pen.{Pen}
@@ -8,11 +8,11 @@ use Rattle.meaning.specs.declared.projection.View.{View}
 use Rattle.meaning.specs.declared.state.Size.{Size}
 use Rattle.meaning.specs.declared.state.Dot.{Dot}
 use Rattle.meaning.specs.declared.state.State.{State}
-use Rattle.meaning.specs.Meaning.{Image, Instruction, pen, clear, show, in_frame, step, after, begin}
+use Rattle.meaning.specs.Meaning.{Image, Instruction, pen, look, clear, show, in_frame, step, after, begin}
 use Rattle.meaning.specs.Numbers.{header}
 use Rattle.codec.specs.Shows.{counts, total, shows}
 use Rattle.reference.specs.Boxes.{Colours, Depths}
-use Rattle.reference.specs.Shows.{at_show, seen_dots, no_dot, OnePicture, Region, Through}
+use Rattle.reference.specs.Shows.{at_show, seen_dots, no_dot, OnePicture, Region, Through, Room}
 use Rattle.reference.proofs.Threes.{Three, three_cond}
 
 -- a dot that is cleared in a region and a frame, of which g takes a part
@@ -73,6 +73,10 @@ module _ (ts : List Image) (s : Size) (cs : List Instruction) (R : ℕ → ℕ �
     pub through_pen : (b : Pen) → Through ts s cs R C D S (pen b ∷ left) p v n C' D' S' → Through ts s cs R C D S left b v n C' D' S'
     unfolding step
     through_pen b o = through_silent (pen b) b v C' D' refl (λ d l. refl) (λ i j m e f h. (refl, f, h)) o o.colours o.depths
+
+    pub through_look : (w : View) → Through ts s cs R C D S (look w ∷ left) p v n C' D' S' → Through ts s cs R C D S left p w n C' D' S'
+    unfolding step
+    through_look w o = through_silent (look w) p w C' D' refl (λ d l. refl) (λ i j m e f h. (e, refl, h)) o o.colours o.depths
 
     -- F is what the region and the pen's frame have in common
     pub through_clear : (F : ℕ → ℕ → Bool) (rgb : List ℕ) (z : ℕ) (C'' D'' : List ℕ) → length rgb ≡ 3 → ((i j : ℕ) → F i j ≡ (R i j && in_frame p.frame i j)) →
@@ -146,3 +150,9 @@ module _ (ts : List Image) (s : Size) (cs : List Instruction) (R : ℕ → ℕ �
             depths = o.depths;
             shown = then_all;
           }
+
+-- room for fewer pictures
+pub room_for : (s : Size) (n k : ℕ) (C D S C' D' S' : List ℕ) → n ≤ k → length C' ≡ length C → length D' ≡ length D → length S' ≡ length S → Room s k C D S → Room s n C' D' S'
+room_for s n k C D S C' D' S' nk c d e o =
+    let f = mul-le-mul_right s.width (mul-le-mul_right s.height nk) in
+    record { colours = omega arith; depths = omega arith; shown = omega arith }

@@ -1,6 +1,6 @@
 -- Triangles in sixteen words: what is put in is taken out again, and no other word counts.
 -- Assumes nothing.
-use Rattle.std.proofs.Common.{◌≡◌, ℕ, ◌+◌, ◌-◌, ◌<◌, ◌≤◌, ◌⊎◌, List, [], ◌∷◌, length, get_or, ◌∙◌, inl, inr, arith, w32, to_z, of_z}
+use Rattle.std.proofs.Common.{◌≡◌, ℕ, ◌+◌, ◌-◌, ◌*◌, ◌/◌, ◌%◌, ◌<◌, ◌≤◌, ◌⊎◌, List, [], ◌∷◌, length, get_or, take, drop, ◌∙◌, inl, inr, arith, w32, to_z, of_z}
 use borrow.Rule.Slice.PartMut.{put_mid}
 use Rattle.std.proofs.lemmas.List.{places}
 use Rattle.setup.specs.declared.triangle.ReadyTriangle.{ReadyTriangle}
@@ -51,6 +51,34 @@ packed r p w0 w1 w2 w3 w4 w5 w6 w7 w8 w9 w10 w11 w12 w13 w14 w15 e0 e1 e2 e3 e4 
           };
       frame = record { left = e18 i; top = e20 i; right = e19 i; bottom = e21 i };
     }
+
+-- a colour in a word
+pub colour_back : (l : List ℕ) (w : ℕ) → length l ≡ 4 → get_or l 0 0 < 256 → get_or l 1 0 < 256 → get_or l 2 0 < 256 → get_or l 3 0 < 256 →
+    w ≡ get_or l 0 0 + get_or l 1 0 * 256 + get_or l 2 0 * 65536 + get_or l 3 0 * 16777216 → colour_in w ≡ l
+colour_back [] w e h0 h1 h2 h3 f = absurd (omega arith)
+colour_back (a ∷ []) w e h0 h1 h2 h3 f = absurd (omega arith)
+colour_back (a ∷ b ∷ []) w e h0 h1 h2 h3 f = absurd (omega arith)
+colour_back (a ∷ b ∷ c ∷ []) w e h0 h1 h2 h3 f = absurd (omega arith)
+colour_back (a ∷ b ∷ c ∷ d ∷ x ∷ l) w e h0 h1 h2 h3 f = absurd (omega arith)
+colour_back (a ∷ b ∷ c ∷ d ∷ []) w e h0 h1 h2 h3 f = parts a b c d w h0 h1 h2 h3 f
+  where
+    last : (a b w : ℕ) → a < 256 → w ≡ a + b * 256 → w % 256 ≡ a
+    last a b w h e = omega arith
+
+    parts : (a b c d w : ℕ) → a < 256 → b < 256 → c < 256 → d < 256 → w ≡ a + b * 256 + c * 65536 + d * 16777216 → colour_in w ≡ a ∷ b ∷ c ∷ d ∷ []
+    parts a b c d w h0 h1 h2 h3 f =
+        let x : w / 256 ≡ b + c * 256 + d * 65536 = omega arith in
+        let y : w / 65536 ≡ c + d * 256 = omega arith in
+        let z : w / 16777216 ≡ d = omega arith in
+        let p : w % 256 ≡ a = omega arith in
+        let q : w / 256 % 256 ≡ b = rw x (last b (c + d * 256) (b + c * 256 + d * 65536) h1 (omega arith)) in
+        let r : w / 65536 % 256 ≡ c = rw y (last c d (c + d * 256) h2 (omega arith)) in
+        let s : w / 16777216 % 256 ≡ d = rw z (last d 0 d h3 (omega arith)) in
+        cc
+
+-- a part of a list
+pub part_read : (W : List ℕ) (at n : ℕ) → n < 16 → get_or (take ((at + 16) - at) (drop at W)) n 0 ≡ get_or W (at + n) 0
+part_read W at n h = grind (arith, places)
 
 -- a part of a list that was written, and the others
 module _ (W new : List ℕ) (at : ℕ) (room : at + 16 ≤ length W) (sixteen : length new ≡ 16) where

@@ -80,6 +80,9 @@ module _ (p : Pen) (t : Triangle) (r : ReadyTriangle) (fits : Placed t) (h : pos
   placed : Placed r.triangle
   placed = subst Placed (sym o.triangle_is) fits
 
+  sound : Sound r.triangle
+  sound = record { placed = placed; clockwise = rw o.triangle_is h }
+
   -- u has the same corners in the order that the definition has them
   same_dots : (u : Triangle) →
       ((x : Option Image) (i j : ℕ) (d : Dot) → at_dot x p u.a u.b u.c i j d ≡ cond (in_frame p.frame i j) (if_covered x p t.a t.b t.c (middle i j) d) d) → On p u r
@@ -89,7 +92,7 @@ module _ (p : Pen) (t : Triangle) (r : ReadyTriangle) (fits : Placed t) (h : pos
             e x i j d
             ∙ in_box x p t.a t.b t.c i j d h (in_frame p.frame i j)
             ∙ (λ k. cond (sym (o.frame_is i j) k) (if_covered x p (sym o.triangle_is k).a (sym o.triangle_is k).b (sym o.triangle_is k).c (middle i j) d) d);
-        sound = λ i j _. record { placed = placed; clockwise = rw o.triangle_is h };
+        sound = λ i j _. sound;
         placed = placed;
       }
 
@@ -112,9 +115,12 @@ module _ (p : Pen) (t : Triangle) (r : ReadyTriangle) where
 
 -- ---- three corners
 module _ (p : Pen) (v : View) (z : Triple) (r : ReadyTriangle) where
-  pub hidden_stands : None ≡ triangle_seen v z → r ≡ nothing → Stands p v z r
+  pub hidden_stands : ((x : Option Image) (i j : ℕ) (d : Dot) → d ≡ triple_at x p v z i j d) → r ≡ nothing → Stands p v z r
+  hidden_stands h e = subst (Stands p v z) (sym e) (record { is = λ x i j d. sym (h x i j d) ∙ sym (none_is _ d i j); sound = none_sound })
+
+  pub none_stands : None ≡ triangle_seen v z → r ≡ nothing → Stands p v z r
   unfolding triple_at
-  hidden_stands h e = subst (Stands p v z) (sym e) (record { is = λ x i j d. sym (hidden x p i j d _ _ _ h) ∙ sym (none_is _ d i j); sound = none_sound })
+  none_stands h e = hidden_stands (λ x i j d. hidden x p i j d _ _ _ h) e
 
   pub seen_stands : (t : Triangle) → Some t ≡ triangle_seen v z → On p t r → Stands p v z r
   unfolding triple_at

@@ -3,13 +3,13 @@
 use mathlib.Core.Path.{◌≡◌, ap}
 use mathlib.Core.Bool.{◌&&◌}
 use mathlib.Core.List.{List}
-use mathlib.Core.Logic.{◌⊎◌, inl}
+use mathlib.Core.Logic.{◌⊎◌, inl, inr}
 use Prim.Native.Nat.{ℕ, ◌+◌, ◌*◌, ◌<◌, ◌≤◌}
 use native.Mathlib.Nat.{add-mul}
 use native.Mathlib.Omega.{arith}
 use Rattle.meaning.specs.declared.pen.Frame.{Frame}
 use Rattle.meaning.specs.Meaning.{in_frame}
-use Rattle.reference.specs.Boxes.{in_box}
+use Rattle.reference.specs.Boxes.{in_box, Colours, Depths}
 use Rattle.reference.specs.Shows.{OnePicture}
 use Rattle.reference.proofs.Rows.{row_below}
 use Rattle.tile.specs.Frames.{Part}
@@ -25,6 +25,12 @@ picture_row n h j m k e f jh = let p : m * k ≡ n * h = λ x. e x * f x in omeg
 module _ (w h : ℕ) (f : Frame) (l t r b : ℕ) (x : Part w f.left f.right l r) (y : Part h f.top f.bottom t b) where
   same_dots : (i j : ℕ) → i < w → (j < h) ⊎ (f.bottom ≤ h) → in_box l t r b i j ≡ in_frame f i j
   same_dots i j iw jh = λ k. x.is i (inl iw) k && y.is j jh k
+
+  pub colours_cut : (V : ℕ → ℕ → ℕ → ℕ) (old new : List ℕ) → f.bottom ≤ h → Colours w (in_box l t r b) V old new → Colours w (in_frame f) V old new
+  colours_cut V old new inside o i j c iw c3 = rw (← same_dots i j iw (inr inside)) (o i j c iw c3)
+
+  pub depths_cut : (V : ℕ → ℕ → ℕ) (old new : List ℕ) → f.bottom ≤ h → Depths w (in_box l t r b) V old new → Depths w (in_frame f) V old new
+  depths_cut V old new inside o i j iw = rw (← same_dots i j iw (inr inside)) (o i j iw)
 
   pub picture_cut : (n : ℕ) (src old new : List ℕ) → OnePicture w h n (in_box l t r b) src old new → OnePicture w h n (in_frame f) src old new
   picture_cut n src old new o q i j c iw jh c3 = rw (← same_dots i j iw (inl jh)) (o q i j c iw jh c3)

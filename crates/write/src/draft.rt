@@ -10,6 +10,8 @@ use std::alloc::Global;
 
 const SIDE: &str = "a texture's side, a power of two from 1 to 256";
 
+pub(crate) const NO_SIZE: &str = "size, a width and a height";
+
 const LACKS_DOTS: &str = "dots, since the texture above lacks some";
 
 #[derive(Drop)]
@@ -25,7 +27,7 @@ pub struct Draft {
 // The first line.
 pub(crate) fn read_size(line: &mut Line) -> Result<Size, Problem> {
     if !line.takes("size") {
-        return Err(line.wrong("size, a width and a height"));
+        return Err(line.wrong(NO_SIZE));
     }
     let width = line.number(1..=1024, "a width from 1 to 1024")?;
     let height = line.number(1..=1024, "a height from 1 to 1024")?;
@@ -56,10 +58,10 @@ impl Draft {
         line.end()
     }
 
-    // The text ends at a line behind its last one.
-    pub(crate) fn end(&self, line: &Line) -> Result<(), Problem> {
+    // The text ends here.
+    pub(crate) fn end(&self, text: &str) -> Result<(), Problem> {
         if self.missing > 0 {
-            return Err(line.wrong(LACKS_DOTS));
+            return Err(Line::behind(text).wrong(LACKS_DOTS));
         }
         Ok(())
     }

@@ -1,45 +1,73 @@
 // A line of a text, read word by word.
-ghost use Rattle.std.specs.Prelude.{◌≤◌, length, Some, IfOk};
+ghost use Rattle.std.specs.Prelude.{◌+◌, ◌≤◌, length, Some, IfOk};
 
 use crate::problem::{Problem, TextError};
 use crate::word::decimal;
 use std::ops::RangeInclusive;
 
-const BLANKS: [char; 3] = [' ', '\t', '\r'];
+fn is_blank(byte: u8) -> bool {
+    matches!(byte, b' ' | b'\t' | b'\r')
+}
+
+// Whether a word ends before this byte: a blank, or a comment.
+fn is_end(byte: u8) -> bool {
+    is_blank(byte) || byte == b'#'
+}
 
 #[derive(Clone, Copy)]
 pub struct Line<'a> {
     number: usize,
     text: &'a str,
-    // what lies before a comment
-    words: &'a str,
-    // the words that were not read yet, from the first one's first letter on
-    rest: &'a str,
-    ghost inside: { length rest.now ≤ length words.now },
+    // the next word, empty where there is none
+    word: &'a str,
+    // what lies behind it
+    behind: &'a str,
+    ghost inside: { length word.now + length behind.now ≤ length text.now },
+}
+
+// The first word of a text, empty where it has none, and what lies behind it. A comment goes to the text's end.
+// It looks at bytes, since letters take more than twice the time; a blank and a `#` are one byte each, so no letter is cut in two. Called by itself it would take a fifth
+// more of the whole program, for the two texts that it hands back.
+#[inline(always)]
+fn first_word(text: &str) -> (&str, &str)
+    ensures { length result.0.now + length result.1.now ≤ length text.now }
+{
+    let start = text
+        .bytes()
+        .position(|byte| !is_blank(byte))
+        .unwrap_or(text.len());
+    let words = match text.split_at_checked(start) {
+        Some((_, words)) if !words.starts_with('#') => words,
+        _ => "",
+    };
+    let end = words.bytes().position(is_end).unwrap_or(words.len());
+    words.split_at_checked(end).unwrap_or((words, ""))
 }
 
 impl<'a> Line<'a> {
     // A line and its number, from 1 on.
     pub(crate) fn new(number: usize, text: &'a str) -> Line<'a> {
-        let (words, _comment) = text.split_once('#').unwrap_or((text, ""));
+        let (word, behind) = first_word(text);
         Line {
             number,
             text,
-            words,
-            rest: words.trim_start_matches(BLANKS),
+            word,
+            behind,
         }
     }
 
-    pub(crate) fn is_empty(&self) -> bool {
-        self.rest.is_empty()
+    // The line behind the last one of a text, which has nothing. The lines are only counted where this is asked for.
+    pub(crate) fn behind(text: &'a str) -> Line<'a> {
+        Line::new(text.lines().count() + 1, "")
     }
 
-    // The next word and what lies behind it; the word is empty where there is none.
-    fn split(&self) -> (&'a str, &'a str)
-        ensures { length result.1.now ≤ length self.now.rest.now }
-    {
-        let (word, rest) = self.rest.split_once(BLANKS).unwrap_or((self.rest, ""));
-        (word, rest.trim_start_matches(BLANKS))
+    pub(crate) fn is_empty(&self) -> bool {
+        self.word.is_empty()
+    }
+
+    // Passes over the next word.
+    fn pass(&mut self) {
+        (self.word, self.behind) = first_word(self.behind);
     }
 
     fn wrong_at(&self, column: usize, expected: &'static str) -> Problem {
@@ -52,12 +80,10 @@ impl<'a> Line<'a> {
 
     // An error where the next word begins, or at the end of a line that has none.
     pub(crate) fn wrong(&self, expected: &'static str) -> Problem {
-        let before = if self.rest.is_empty() {
-            self.text.len()
-        } else {
-            self.words.len() - self.rest.len()
-        };
-        self.wrong_at(before + 1, expected)
+        self.wrong_at(
+            self.text.len() - self.behind.len() - self.word.len() + 1,
+            expected,
+        )
     }
 
     // An error at the beginning of the line.
@@ -75,12 +101,11 @@ impl<'a> Line<'a> {
 
     // Whether the next word is this one; it is passed over only then.
     pub(crate) fn takes(&mut self, word: &str) -> bool {
-        let (found, rest) = self.split();
-        if found == word {
-            self.rest = rest;
-            return true;
+        if self.word != word {
+            return false;
         }
-        false
+        self.pass();
+        true
     }
 
     // What the next word says, which is passed over unless it says nothing.
@@ -92,11 +117,10 @@ impl<'a> Line<'a> {
         requires { F.IsAlwaysCallable meaning }
         ensures { IfOk result (λ v. (w : _) × F.post meaning w (Some v)) }
     {
-        let (word, rest) = self.split();
-        let Some(value) = meaning(word) else {
+        let Some(value) = meaning(self.word) else {
             return Err(self.wrong(expected));
         };
-        self.rest = rest;
+        self.pass();
         Ok(value)
     }
 
@@ -117,11 +141,11 @@ impl<'a> Line<'a> {
         table: &[(&str, T)],
         expected: &'static str,
     ) -> Result<T, Problem> {
-        let (word, rest) = self.split();
-        let Some((_, value)) = table.iter().find(|(name, _)| *name == word) else {
-            return Err(self.wrong(expected));
-        };
-        self.rest = rest;
-        Ok(*value)
+        for (name, value) in table {
+            if self.takes(name) {
+                return Ok(*value);
+            }
+        }
+        Err(self.wrong(expected))
     }
 }

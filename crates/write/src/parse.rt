@@ -1,21 +1,25 @@
 // A text, line by line.
-use crate::draft::{Draft, read_size};
+use crate::draft::{Draft, NO_SIZE, read_size};
 use crate::line::Line;
 use crate::problem::Problem;
 use std::alloc::Global;
 
 pub(crate) fn parse(heap: Global, text: &str) -> Result<Draft, Problem> {
-    let end = Line::new(text.lines().count() + 1, "");
-    let mut lines = text
+    let lines = text
         .lines()
         .enumerate()
         .map(|(k, text)| Line::new(k + 1, text))
         .filter(|line| !line.is_empty());
-    let mut first = lines.next().unwrap_or(end);
-    let mut draft = Draft::new(heap, read_size(&mut first)?);
+    let mut begun = None;
     for mut line in lines {
-        draft.read(&mut line)?;
+        match &mut begun {
+            None => begun = Some(Draft::new(heap, read_size(&mut line)?)),
+            Some(draft) => draft.read(&mut line)?,
+        }
     }
-    draft.end(&end)?;
+    let Some(draft) = begun else {
+        return Err(Line::behind(text).wrong(NO_SIZE));
+    };
+    draft.end(text)?;
     Ok(draft)
 }

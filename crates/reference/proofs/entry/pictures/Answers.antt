@@ -1,7 +1,7 @@
 use Rattle.std.proofs.Common.{refl, rules}
 use Rattle.std.proofs.lemmas.Result.{err_from_is_err_and}
 use Rattle.reference.specs.Made.{Made}
-use Rattle.reference.proofs.Entering.{made_none, room_lent, made_all, made_is_meant}
+use Rattle.reference.proofs.Entering.{made_none, room_lent, made_drawn, made_is_meant}
 use Rattle.reference.proofs.entry.pictures.Goals as goal
 
 pub returns-in_err-task : goal.returns-in_err-task
@@ -27,6 +27,6 @@ returns g c =
     let n = o.same.colours.name in
     let m = o.same.depths.name in
     let k = o.same.shown.name in
-    let made = made_all a.file.now a.colours.now a.depths.now a.work.now a.shown.now c.of.result e.colours e.depths e.work e.shown c.in_ok-task.task _ c.draw.new.canvas _ _ _ c.in_ok-task.ensures.0 c.in_ok-task.ensures.1
+    let made = made_drawn a.file.now a.colours.now a.depths.now a.work.now a.shown.now c.of.result e.colours e.depths e.work e.shown c.in_ok-task.task _ c.draw.new.canvas _ _ _ c.in_ok-task.ensures.0 c.in_ok-task.ensures.1
     refl refl refl refl o (search rules) (search rules) (search rules) in
     record { made = made; same = made_is_meant a.file.now a.colours.now a.depths.now a.work.now a.shown.now _ _ _ a.work.now _ made }

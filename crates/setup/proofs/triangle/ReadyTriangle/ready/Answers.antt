@@ -1,5 +1,5 @@
 use Rattle.meaning.specs.Fragments.{triple}
-use Rattle.setup.proofs.Standing.{none_placed, hidden_stands, seen_stands, seen_placed}
+use Rattle.setup.proofs.Standing.{none_placed, none_stands, seen_stands, seen_placed}
 use Rattle.setup.proofs.triangle.ReadyTriangle.ready.Goals as goal
 
 pub clockwise-requires : goal.clockwise-requires
@@ -15,6 +15,6 @@ returns-in-Some c =
 pub returns-in-None : goal.returns-in-None
 returns-in-None c =
     record {
-      stands = hidden_stands c.args.pen c.args.view (triple c.args.corners) c.none.result c.in-None.ensures c.none.ensures;
+      stands = none_stands c.args.pen c.args.view (triple c.args.corners) c.none.result c.in-None.ensures c.none.ensures;
       placed = none_placed c.none.result c.none.ensures;
     }
