@@ -26,8 +26,8 @@ pub struct Line<'a> {
 }
 
 // The first word of a text, empty where it has none, and what lies behind it. A comment goes to the text's end.
-// It looks at bytes, since letters take more than twice the time; a blank and a `#` are one byte each, so no letter is cut in two. Called by itself it would take a fifth
-// more of the whole program, for the two texts that it hands back.
+// Kept: bytes, since letters take more than twice the time. Where a byte is a blank or `#`, so is a letter, and none is cut in two.
+// Put into its callers, since the two texts that it hands back would else cost a fifth of the whole program.
 #[inline(always)]
 fn first_word(text: &str) -> (&str, &str)
     ensures { length result.0.now + length result.1.now ≤ length text.now }
@@ -57,8 +57,11 @@ impl<'a> Line<'a> {
     }
 
     // The line behind the last one of a text, which has nothing. The lines are only counted where this is asked for.
+    // Kept: by their ends, since `lines` takes four times as long to cut them out.
     pub(crate) fn behind(text: &'a str) -> Line<'a> {
-        Line::new(text.lines().count() + 1, "")
+        let ended = text.bytes().filter(|byte| *byte == b'\n').count();
+        let open = usize::from(!text.is_empty() && !text.ends_with('\n'));
+        Line::new(ended + open + 1, "")
     }
 
     pub(crate) fn is_empty(&self) -> bool {

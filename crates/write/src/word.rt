@@ -14,7 +14,7 @@ fn hexadecimal(word: &str, digits: usize) -> Option<u32> {
     if word.len() != digits {
         return None;
     }
-    // Kept: digit by digit; `from_str_radix` takes more than twice as long, and these are most of a text.
+    // Kept: digit by digit; `from_str_radix` takes more than twice as long, and of a text with textures these are most.
     let mut number = 0u32;
     for byte in word.bytes() {
         let digit = char::from(byte).to_digit(16)?;
