@@ -58,10 +58,10 @@ impl Draft {
         line.end()
     }
 
-    // The text ends here.
-    pub(crate) fn end(&self, text: &str) -> Result<(), Problem> {
+    // The text ends at a line behind its last one.
+    pub(crate) fn end(&self, line: &Line) -> Result<(), Problem> {
         if self.missing > 0 {
-            return Err(Line::behind(text).wrong(LACKS_DOTS));
+            return Err(line.wrong(LACKS_DOTS));
         }
         Ok(())
     }

@@ -56,14 +56,6 @@ impl<'a> Line<'a> {
         }
     }
 
-    // The line behind the last one of a text, which has nothing. The lines are only counted where this is asked for.
-    // Kept: by their ends, since `lines` takes four times as long to cut them out.
-    pub(crate) fn behind(text: &'a str) -> Line<'a> {
-        let ended = text.bytes().filter(|byte| *byte == b'\n').count();
-        let open = usize::from(!text.is_empty() && !text.ends_with('\n'));
-        Line::new(ended + open + 1, "")
-    }
-
     pub(crate) fn is_empty(&self) -> bool {
         self.word.is_empty()
     }
