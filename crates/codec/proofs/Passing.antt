@@ -1,10 +1,9 @@
 -- The first that does not pass, step by step; where none is found, all pass.
 -- Assumes nothing.
-use Rattle.std.proofs.Common.{◌≡◌, ℕ, zero, suc, ◌+◌, ◌<◌, ◌≤◌, Bool, true, false, not, cond, ltb, List, [], ◌∷◌, length, get_or, drop, Some, None, Option, sym, refl, ◌∙◌, add-one, arith}
+use Rattle.std.proofs.Common.{◌≡◌, ℕ, zero, suc, ◌+◌, ◌<◌, ◌≤◌, Bool, true, false, not, cond, List, [], ◌∷◌, length, get_or, drop, Some, None, Option, sym, refl, ◌∙◌, add-one, arith}
 use Rattle.std.proofs.lemmas.List.{at_drop_more, at_drop_all}
 use Rattle.std.proofs.lemmas.Iterator.Adapters.{position_from-zero}
-use Rattle.std.proofs.lemmas.Bool.Decides.{nat_tests}
-use Rattle.std.specs.List.{AllByRecursion, prefix_len, position_from}
+use Rattle.std.specs.List.{AllByRecursion, position_from}
 use Rattle.codec.specs.Writing.{first_not}
 
 -- nothing is found: the test passed
@@ -52,14 +51,5 @@ pub all_pass_from : {A : Type 0} (ok : A → Bool) (k : ℕ) (xs : List A) → f
 all_pass_from ok k [] h = tt
 all_pass_from ok k (x ∷ xs) h = let p = none_from (ok x) k (first_from ok (k + 1) xs) h in (p.0, all_pass_from ok (k + 1) xs p.1)
 
-some_if : {A : Type 0} (b : Bool) (e : A) → cond b (Some e) None ≡ None → b ≡ false
-some_if true e h = absurd (grind arith)
-some_if false e h = refl
-
 pub all_pass : {A : Type 0} (ok : A → Bool) (xs : List A) → first_not ok xs ≡ None → AllByRecursion (λ x. ok x ≡ true) xs
-all_pass ok [] h = tt
-all_pass ok (x ∷ xs) h = let e = first (ok x) (prefix_len (λ x. not (not (ok x))) xs) (length xs) (some_if _ _ h) in (e.0, all_pass ok xs (rw e.1 refl))
-  where
-    first : (b : Bool) (k n : ℕ) → ltb (cond (not (not b)) (1 + k) 0) (suc n) ≡ false → (b ≡ true) × (ltb k n ≡ false)
-    first true k n e = (refl, grind (arith, nat_tests))
-    first false k n e = absurd (grind (arith, nat_tests))
+all_pass ok xs h = all_pass_from ok 0 xs (sym (first_is ok xs) ∙ h)

@@ -12,7 +12,7 @@ pub(crate) fn parse(heap: Global, text: &str) -> Result<Draft, Problem> {
         .enumerate()
         .map(|(k, text)| {
             last = k + 1;
-            Line::new(k + 1, text)
+            Line::new(last, text)
         })
         .filter(|line| !line.is_empty());
     // Kept: one loop, where the first line could be taken before it: a line that is handed on by itself takes twice as long.
